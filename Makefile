@@ -1,0 +1,25 @@
+# make run: the main job on sample input.  make test: the whole gate.
+CASES ?= 200000
+SEED ?= 1
+
+.PHONY: run test library host compare bench
+
+run: host
+	host/target/release/show
+
+test:
+	tools/gate $(CASES) $(SEED)
+
+# the proved code as a static library
+library:
+	rt staticlib exports
+
+host: library
+	cargo build --release --offline --quiet --manifest-path host/Cargo.toml
+
+# as many cases a leaf as are asked for, with a progress line: make compare CASES=10000000
+compare: host
+	host/target/release/compare --cases $(CASES) --seed $(SEED)
+
+bench: host
+	host/target/release/bench

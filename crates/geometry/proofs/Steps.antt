@@ -1,0 +1,232 @@
+-- Laws of the determinant's steps: the pivot's row, one turn of each loop, and what is left after a step.
+use mathlib.Core.Path.{_≡_, refl, sym, ap, _∙_}
+use mathlib.Core.Bool.{Bool, true, false, cond}
+use mathlib.Core.Logic.{⊎-elim}
+use mathlib.Core.List.{List}
+use Prim.Native.Nat.{ℕ, zero, suc, _+_, _-_, _*_, _≤_, _<_}
+use native.Mathlib.Omega.{arith}
+use lib.Dec.{eqb, ltb}
+use lib.Ieee.{Float, lt, eq}
+use lib.ListN.{length, set, length-set}
+use borrow.Author.Tests.{lt-ltb, le-ltb, eq-eqb, ne-eqb}
+use Rattle.standins.specs.Num.{_⊖_, _⊗_, _⊘_, nought, absOf}
+use Rattle.geometry.specs.Matrix.{entry, matrixOf, largerOf, largestOf, pivotRowOf, otherRow, swapOf, swapCount, lostOf, loseRowOf, loseOf, diagonalOf, signedOf, stepsOf}
+use Rattle.geometry.proofs.Tables.{same-or, below-or, length-matrix, entry-matrix, matrix-is, entry-set-same, entry-set-other, columnsOf, columns-ahead, columns-turn, length-columns}
+
+-- ---- the pivot's row
+pub largest-none : (m : List Float) (k : ℕ) → k ≡ largestOf m k (k + 1 - k - 1)
+unfolding largestOf
+largest-none m k = let z : k + 1 - k - 1 ≡ 0 = omega arith in rw z
+
+pub largest-more : (m : List Float) (k p i r : ℕ) → k < i → p ≡ largestOf m k (i - k - 1) → r ≡ largerOf m k p i → r ≡ largestOf m k (i + 1 - k - 1)
+unfolding largestOf
+largest-more m k p i r h e q =
+    let n : i + 1 - k - 1 ≡ suc (i - k - 1) = omega arith in
+    let l : k + suc (i - k - 1) ≡ i = omega arith in
+    rw (n, l) (q ∙ ap (λ (z : ℕ). largerOf m k z i) e)
+
+pub larger-below : (m : List Float) (k p i : ℕ) → p < 6 → i < 6 → largerOf m k p i < 6
+unfolding largerOf
+larger-below m k p i hp hi = pick (lt (absOf (entry m p k)) (absOf (entry m i k)))
+  where
+    pick : (t : Bool) → cond t i p < 6
+    pick true = hi
+    pick false = hp
+
+largest-below : (m : List Float) (k n : ℕ) → k + n < 6 → largestOf m k n < 6
+unfolding largestOf
+largest-below m k zero h = omega arith
+largest-below m k (suc n) h = larger-below m k (largestOf m k n) (k + suc n) (largest-below m k n (omega arith)) h
+
+pub pivot-below : (m : List Float) (k : ℕ) → k < 6 → pivotRowOf m k < 6
+unfolding pivotRowOf
+pivot-below m k h = largest-below m k (5 - k) (omega arith)
+
+-- ---- rows k and p swapped, column by column
+abbrev pub swapped : List Float → ℕ → ℕ → ℕ → ℕ → Float
+swapped m k p i j = entry m (otherRow k p i) j
+
+pub length-swap : (m : List Float) (k p : ℕ) → length (swapOf m k p) ≡ 36
+unfolding swapOf
+length-swap m k p = length-matrix (swapped m k p)
+
+other-same : (k i : ℕ) → otherRow k k i ≡ i
+unfolding otherRow
+other-same k i = ⊎-elim (λ (e : i ≡ k). rw (eq-eqb i k e) (sym e)) (λ (e : i ≡ k → ⊥). rw (ne-eqb i k e)) (same-or i k)
+
+pub swap-none : (m : List Float) (k p : ℕ) → length m ≡ 36 → k ≡ p → m ≡ swapOf m k p
+unfolding swapOf
+swap-none m k p l e =
+    matrix-is (swapped m k p) m l
+    (λ i j hi hj. ap (λ (z : ℕ). entry m z j) (sym (ap (λ (z : ℕ). otherRow k z i) (sym e) ∙ other-same k i)))
+
+other-first : (k p : ℕ) → otherRow k p k ≡ p
+unfolding otherRow
+other-first k p = rw (eq-eqb k k refl)
+
+other-second : (k p : ℕ) → otherRow k p p ≡ k
+unfolding otherRow
+other-second k p =
+    ⊎-elim (λ (e : p ≡ k). rw (eq-eqb p k e) e) (λ (e : p ≡ k → ⊥). rw (ne-eqb p k e, eq-eqb p p refl)) (same-or p k)
+
+other-rest : (k p i : ℕ) → (i ≡ k → ⊥) → (i ≡ p → ⊥) → otherRow k p i ≡ i
+unfolding otherRow
+other-rest k p i a b = rw (ne-eqb i k a, ne-eqb i p b)
+
+pub swap-turn : (m cur : List Float) (k p c : ℕ) → k < 6 → p < 6 → c < 6 → cur ≡ columnsOf c (swapped m k p) (entry m)
+    → set (set cur (6 * k + c) (entry cur p c)) (6 * p + c) (entry cur k c) ≡ columnsOf (c + 1) (swapped m k p) (entry m)
+swap-turn m cur k p c hk hp hc e =
+    columns-turn (swapped m k p) (entry m) c cur new e (length-set first (6 * p + c) (entry cur k c) ∙ lf)
+    (λ i hi.
+    ⊎-elim
+    (λ (q : i ≡ p). ap (λ (z : ℕ). entry new z c) q ∙ entry-set-same first p c (entry cur k c) lf hp hc ∙ ahead k hk ∙ at (sym (ap (otherRow k p) q ∙ other-second k p)))
+    (λ (n : i ≡ p → ⊥).
+    entry-set-other first p c i c (entry cur k c) (λ z. n (omega arith))
+    ∙ ⊎-elim
+    (λ (q : i ≡ k). ap (λ (z : ℕ). entry first z c) q ∙ entry-set-same cur k c (entry cur p c) lc hk hc ∙ ahead p hp ∙ at (sym (ap (otherRow k p) q ∙ other-first k p)))
+    (λ (n′ : i ≡ k → ⊥). entry-set-other cur k c i c (entry cur p c) (λ z. n′ (omega arith)) ∙ ahead i hi ∙ at (sym (other-rest k p i n′ n)))
+    (same-or i k))
+    (same-or i p))
+    (λ i j hi hj n. entry-set-other first p c i j (entry cur k c) (λ z. n (omega arith)) ∙ entry-set-other cur k c i j (entry cur p c) (λ z. n (omega arith)))
+  where
+    first : List Float
+    first = set cur (6 * k + c) (entry cur p c)
+
+    new : List Float
+    new = set first (6 * p + c) (entry cur k c)
+
+    lc : length cur ≡ 36
+    lc = ap length e ∙ length-columns (swapped m k p) (entry m) c
+
+    lf : length first ≡ 36
+    lf = length-set cur (6 * k + c) (entry cur p c) ∙ lc
+
+    ahead : (i : ℕ) → i < 6 → entry cur i c ≡ entry m i c
+    ahead i hi = ap (λ (z : List Float). entry z i c) e ∙ columns-ahead (swapped m k p) (entry m) c i c hi hc (omega arith)
+
+    at : {a b : ℕ} → a ≡ b → entry m a c ≡ entry m b c
+    at q = ap (λ (z : ℕ). entry m z c) q
+
+-- ---- row i loses, column by column
+abbrev pub lost : List Float → ℕ → ℕ → ℕ → ℕ → Float
+lost m k i r j = cond (eqb r i) (lostOf m k r j) (entry m r j)
+
+pub lose-turn : (m cur : List Float) (k i c : ℕ) → k < 6 → i < 6 → c < 6 → cur ≡ columnsOf c (lost m k i) (entry m)
+    → set cur (6 * i + c) (entry cur i c ⊖ entry m i k ⊘ entry m k k ⊗ entry cur k c) ≡ columnsOf (c + 1) (lost m k i) (entry m)
+unfolding lostOf
+lose-turn m cur k i c hk hi hc e =
+    columns-turn (lost m k i) (entry m) c cur (set cur (6 * i + c) v) e (length-set cur (6 * i + c) v ∙ lc)
+    (λ r hr.
+    ⊎-elim
+    (λ (q : r ≡ i). ap (λ (z : ℕ). entry (set cur (6 * i + c) v) z c) q ∙ entry-set-same cur i c v lc hi hc ∙ value ∙ rw (eq-eqb r i q, q))
+    (λ (n : r ≡ i → ⊥). entry-set-other cur i c r c v (λ z. n (omega arith)) ∙ ahead r hr ∙ rw (ne-eqb r i n))
+    (same-or r i))
+    (λ r j hr hj n. entry-set-other cur i c r j v (λ z. n (omega arith)))
+  where
+    f : Float
+    f = entry m i k ⊘ entry m k k
+
+    v : Float
+    v = entry cur i c ⊖ f ⊗ entry cur k c
+
+    lc : length cur ≡ 36
+    lc = ap length e ∙ length-columns (lost m k i) (entry m) c
+
+    ahead : (r : ℕ) → r < 6 → entry cur r c ≡ entry m r c
+    ahead r hr = ap (λ (z : List Float). entry z r c) e ∙ columns-ahead (lost m k i) (entry m) c r c hr hc (omega arith)
+
+    value : v ≡ entry m i c ⊖ f ⊗ entry m k c
+    value = ap (λ (z : Float). z ⊖ f ⊗ entry cur k c) (ahead i hi) ∙ ap (λ (z : Float). entry m i c ⊖ f ⊗ z) (ahead k hk)
+
+-- ---- the rows below k lose, row by row: those before row i have
+unfoldable pub rowsOf : List Float → ℕ → ℕ → List Float
+rowsOf m k i = matrixOf (λ r j. cond (ltb r i) (cond (ltb k r) (lostOf m k r j) (entry m r j)) (entry m r j))
+
+pub length-lose : (m : List Float) (k : ℕ) → length (loseOf m k) ≡ 36
+unfolding loseOf
+length-lose m k = length-matrix (λ i j. cond (ltb k i) (lostOf m k i j) (entry m i j))
+
+module _ (m : List Float) (k : ℕ) where
+  abbrev row : ℕ → ℕ → ℕ → Float
+  row i r j = cond (ltb r i) (cond (ltb k r) (lostOf m k r j) (entry m r j)) (entry m r j)
+
+  pub length-rows : (i : ℕ) → length (rowsOf m k i) ≡ 36
+  unfolding rowsOf
+  length-rows i = length-matrix (row i)
+
+  pub rows-none : length m ≡ 36 → m ≡ rowsOf m k (k + 1)
+  unfolding rowsOf
+  rows-none l =
+      matrix-is (row (k + 1)) m l
+      (λ r j hr hj.
+      ⊎-elim (λ (b : k < r). rw (le-ltb r (k + 1) (omega arith))) (λ (b : r ≤ k). rw (lt-ltb r (k + 1) (omega arith), le-ltb k r b)) (below-or k r))
+
+  pub rows-all : (i : ℕ) → 6 ≤ i → rowsOf m k i ≡ loseOf m k
+  unfolding rowsOf loseOf
+  rows-all i b =
+      matrix-is (λ r j. cond (ltb k r) (lostOf m k r j) (entry m r j)) (matrixOf (row i)) (length-matrix (row i))
+      (λ r j hr hj. entry-matrix (row i) r j hr hj ∙ rw (lt-ltb r i (omega arith)))
+
+  -- the rows that the loop has not come to stay, and so does row k
+  rows-stay : (i r j : ℕ) → r < 6 → j < 6 → i ≤ r → entry (rowsOf m k i) r j ≡ entry m r j
+  unfolding rowsOf
+  rows-stay i r j hr hj b = entry-matrix (row i) r j hr hj ∙ rw (le-ltb r i b)
+
+  rows-pivot : (i j : ℕ) → k < 6 → j < 6 → entry (rowsOf m k i) k j ≡ entry m k j
+  unfolding rowsOf
+  rows-pivot i j hk hj =
+      entry-matrix (row i) k j hk hj
+      ∙ ⊎-elim (λ (b : k < i). rw (lt-ltb k i b, le-ltb k k (omega arith))) (λ (b : i ≤ k). rw (le-ltb k i b)) (below-or k i)
+
+  lost-same : (i j : ℕ) → k < i → i < 6 → j < 6 → lostOf (rowsOf m k i) k i j ≡ lostOf m k i j
+  unfolding lostOf
+  lost-same i j hk hi hj =
+      rw (rows-stay i i j hi hj (omega arith), rows-stay i i k hi (omega arith) (omega arith), rows-pivot i k (omega arith) (omega arith), rows-pivot i j (omega arith) hj)
+
+  pub rows-turn : (i : ℕ) → k < i → i < 6 → loseRowOf (rowsOf m k i) k i ≡ rowsOf m k (i + 1)
+  unfolding rowsOf loseRowOf
+  rows-turn i hk hi =
+      let cur : List Float = rowsOf m k i in
+      matrix-is (row (i + 1)) (matrixOf (lost cur k i)) (length-matrix (lost cur k i))
+      (λ r j hr hj.
+      entry-matrix (lost cur k i) r j hr hj
+      ∙ ⊎-elim
+      (λ (q : r ≡ i). rw (eq-eqb r i q, q, lt-ltb i (i + 1) (omega arith), lt-ltb k i hk) (lost-same i j hk hi hj))
+      (λ (n : r ≡ i → ⊥).
+      rw (ne-eqb r i n)
+      (entry-matrix (row i) r j hr hj
+      ∙ ⊎-elim
+      (λ (b : r < i). rw (lt-ltb r i b, lt-ltb r (i + 1) (omega arith)))
+      (λ (b : i ≤ r). rw (le-ltb r i b, le-ltb r (i + 1) (omega arith)))
+      (below-or r i)))
+      (same-or r i))
+
+-- ---- what is left from column k on
+pub count-most : (k p : ℕ) → swapCount k p ≤ 1
+unfolding swapCount
+count-most k p = pick (eqb k p)
+  where
+    pick : (t : Bool) → cond t 0 1 ≤ 1
+    pick true = omega arith
+    pick false = omega arith
+
+module _ (m : List Float) (swaps k p : ℕ) (d : Float) (e : p ≡ pivotRowOf m k) (left : stepsOf m swaps k (6 - k) ≡ d) where
+  pub steps-zero : k < 6 → eq (entry m p k) nought ≡ true → nought ≡ d
+  unfolding stepsOf
+  steps-zero h z =
+      let n : 6 - k ≡ suc (5 - k) = omega arith in
+      let z′ : eq (entry m (pivotRowOf m k) k) nought ≡ true = rw e at z in
+      sym (rw (n, z′)) ∙ left
+
+  pub steps-turn : (r : ℕ) (a b : List Float) → k < 6 → eq (entry m p k) nought ≡ false → r ≡ swapCount k p → a ≡ swapOf m k p → b ≡ loseOf a k
+      → stepsOf b (swaps + r) (k + 1) (6 - (k + 1)) ≡ d
+  unfolding stepsOf
+  steps-turn r a b h z er ea eb =
+      let n : 6 - k ≡ suc (6 - (k + 1)) = omega arith in
+      let z′ : eq (entry m (pivotRowOf m k) k) nought ≡ false = rw e at z in
+      let more : stepsOf m swaps k (6 - k) ≡ stepsOf (loseOf (swapOf m k (pivotRowOf m k)) k) (swaps + swapCount k (pivotRowOf m k)) (k + 1) (6 - (k + 1)) = rw (n, z′) in
+      cc
+
+pub steps-done : (m : List Float) (swaps k : ℕ) (d : Float) → 6 ≤ k → stepsOf m swaps k (6 - k) ≡ d → signedOf swaps (diagonalOf m) ≡ d
+unfolding stepsOf
+steps-done m swaps k d h left = let n : 6 - k ≡ 0 = omega arith in rw n at left

@@ -1,0 +1,1 @@
+// Laws on lists, in specs/: what writers write (splice) and what counting loops write (runs). No code.

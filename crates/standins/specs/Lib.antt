@@ -1,0 +1,4 @@
+pub mod Num
+pub mod Series
+pub mod Power
+pub mod Cut

@@ -1,0 +1,109 @@
+-- Sine, cosine, exponential and atan2 of document 01. Each operation rounds once, left to right.
+use mathlib.Core.Path.{_≡_, ap, _∙_}
+use mathlib.Core.Bool.{cond}
+use Prim.Native.Nat.{ℕ, zero, suc, _+_, _-_, _*_, _≤_, _<_}
+use native.Mathlib.Omega.{arith}
+use lib.Ieee.{Float, nan, binary64, ofBits, neg, lt, ne}
+use Rattle.root.specs.Root.{rootOf}
+use Rattle.standins.specs.Num.{_⊕_, _⊖_, _⊗_, _⊘_, nought, one, whole}
+use Rattle.standins.specs.declared.series.SinCos.{SinCos}
+
+-- for k = n down to 1, s becomes f k s
+unfoldable pub downFrom : (ℕ → Float → Float) → ℕ → Float → Float
+downFrom f zero s = s
+downFrom f (suc n) s = downFrom f n (f (suc n) s)
+
+-- ---- sine and cosine
+
+-- the divisor of the n-th term
+unfoldable pub sineDivisor : ℕ → Float
+sineDivisor n = whole (2 * n * (2 * n + 1))
+
+unfoldable pub cosineDivisor : ℕ → Float
+cosineDivisor n = whole ((2 * n - 1) * (2 * n))
+
+-- one term more: 1 - s·q/d
+unfoldable pub termOf : (ℕ → Float) → Float → ℕ → Float → Float
+termOf d q n s = one ⊖ s ⊗ q ⊘ d n
+
+-- q = a·a, s = 1; for n = 16 down to 1, s = 1 - s·q/d
+unfoldable pub seriesOf : (ℕ → Float) → Float → Float
+seriesOf d a = downFrom (termOf d (a ⊗ a)) 16 one
+
+unfoldable pub sineOf : Float → Float
+sineOf a = a ⊗ seriesOf sineDivisor a
+
+unfoldable pub cosineOf : Float → Float
+cosineOf a = seriesOf cosineDivisor a
+
+unfoldable pub sineCosineOf : Float → SinCos
+sineCosineOf a = record { sin = sineOf a; cos = cosineOf a }
+
+-- ---- exponential
+
+-- one term more: 1 + e·z/n
+unfoldable pub expTermOf : Float → ℕ → Float → Float
+expTermOf z n e = one ⊕ e ⊗ z ⊘ whole n
+
+-- e = 1; for n = 18 down to 1, e = 1 + e·z/n
+unfoldable pub expSeriesOf : Float → Float
+expSeriesOf z = downFrom (expTermOf z) 18 one
+
+-- a, squared k times
+unfoldable pub squarings : ℕ → Float → Float
+squarings k a = downFrom (λ n e. e ⊗ e) k a
+
+-- y < -700 gives 0; y > 0 or NaN gives NaN; else the series of y/1024, squared ten times
+unfoldable pub expOf : Float → Float
+expOf y =
+    cond (lt y (neg (whole 700))) nought
+    (cond (lt nought y) nan
+    (cond (ne y y) nan
+    (squarings 10 (expSeriesOf (y ⊘ whole 1024)))))
+
+-- ---- atan2 of n and w
+
+-- r/(1 + sqrt(1 + r·r))
+unfoldable pub halvedOf : Float → Float
+halvedOf r = r ⊘ (one ⊕ rootOf (one ⊕ r ⊗ r))
+
+-- one term more, m = 2n - 1: 1/m - s·(r·r)
+unfoldable pub arcTermOf : Float → ℕ → Float → Float
+arcTermOf q n s = one ⊘ whole (2 * n - 1) ⊖ s ⊗ q
+
+-- s = 1/25; for odd m = 23 down to 1, s = 1/m - s·(r·r)
+unfoldable pub arcSeriesOf : Float → Float
+arcSeriesOf r = downFrom (arcTermOf (r ⊗ r)) 12 (one ⊘ whole 25)
+
+-- r halved twice, then 4·(r·s)
+unfoldable pub smallAngleOf : Float → Float
+smallAngleOf r = let h = halvedOf (halvedOf r) in whole 4 ⊗ (h ⊗ arcSeriesOf h)
+
+-- 1.5707963267948966
+abbrev pub quarterTurn : Float
+quarterTurn = ofBits binary64 0x3ff9_21fb_5444_2d18
+
+-- r is the smaller over the larger; if n > w, a quarter turn minus its angle
+unfoldable pub atan2Of : Float → Float → Float
+atan2Of n w = cond (lt w n) (quarterTurn ⊖ smallAngleOf (w ⊘ n)) (smallAngleOf (n ⊘ w))
+
+-- ---- laws: a loop that counts down
+
+-- one turn
+pub down-turn : (f : ℕ → Float → Float) (n : ℕ) (s t : Float) → 0 < n → downFrom f n s ≡ t → downFrom f (n - 1) (f n s) ≡ t
+unfolding downFrom
+down-turn f zero s t h e = absurd (omega arith)
+down-turn f (suc n) s t h e = let k : suc n - 1 ≡ n = omega arith in ap (λ (m : ℕ). downFrom f m (f (suc n) s)) k ∙ e
+
+-- where it ends
+pub down-done : (f : ℕ → Float → Float) (n : ℕ) (s t : Float) → n ≤ 0 → downFrom f n s ≡ t → s ≡ t
+unfolding downFrom
+down-done f zero s t h e = e
+down-done f (suc n) s t h e = absurd (omega arith)
+
+-- one turn of sine's or cosine's series, whichever the divisors are
+pub term-turn : (d : ℕ → Float) (q : Float) (n : ℕ) (s t k : Float) → 0 < n → k ≡ d n
+    → downFrom (termOf d q) n s ≡ t → downFrom (termOf d q) (n - 1) (one ⊖ s ⊗ q ⊘ k) ≡ t
+unfolding termOf
+term-turn d q n s t k h e i =
+    ap (λ (x : Float). downFrom (termOf d q) (n - 1) (one ⊖ s ⊗ q ⊘ x)) e ∙ down-turn (termOf d q) n s t h i

@@ -1,0 +1,4 @@
+// The numbers of document 01's section 'Stand-ins', the square root apart.
+pub mod cut;
+pub mod power;
+pub mod series;

@@ -1,0 +1,169 @@
+// Sine, cosine, the exponential and the arc tangent: each a series worked out from its last term down, one rounding for each operation.
+ghost use mathlib.Core.Path.{_≡_};
+ghost use Prim.Native.Nat.{_≤_, _<_};
+ghost use Rattle.standins.specs.Series.{sineDivisor, cosineDivisor, sineOf, cosineOf, sineCosineOf, expSeriesOf, squarings, expOf, halvedOf, arcSeriesOf, smallAngleOf, atan2Of};
+
+// 2n·(2n+1), for n from 1
+const SINE_DIVISORS: [f64; 16] = [
+    6.0,
+    20.0,
+    42.0,
+    72.0,
+    110.0,
+    156.0,
+    210.0,
+    272.0,
+    342.0,
+    420.0,
+    506.0,
+    600.0,
+    702.0,
+    812.0,
+    930.0,
+    1056.0,
+];
+
+// (2n-1)·2n, for n from 1
+const COSINE_DIVISORS: [f64; 16] = [
+    2.0,
+    12.0,
+    30.0,
+    56.0,
+    90.0,
+    132.0,
+    182.0,
+    240.0,
+    306.0,
+    380.0,
+    462.0,
+    552.0,
+    650.0,
+    756.0,
+    870.0,
+    992.0,
+];
+
+pub struct SinCos {
+    pub sin: f64,
+    pub cos: f64,
+}
+
+fn sine_divisor(n: usize) -> f64
+    requires { ⌜ (0 < n) × (n ≤ 16) ⌝ }
+    ensures { λ r. ⌜ r ≡ sineDivisor n ⌝ }
+{
+    SINE_DIVISORS[n - 1]
+}
+
+fn cosine_divisor(n: usize) -> f64
+    requires { ⌜ (0 < n) × (n ≤ 16) ⌝ }
+    ensures { λ r. ⌜ r ≡ cosineDivisor n ⌝ }
+{
+    COSINE_DIVISORS[n - 1]
+}
+
+// Both in one loop: the two chains of divisions do not wait for each other.
+pub fn sin_cos(a: f64) -> SinCos
+    ensures { λ r. ⌜ r ≡ sineCosineOf a ⌝ }
+{
+    let q = a * a;
+    let mut s = 1.0;
+    let mut c = 1.0;
+    let mut n: usize = 16;
+    while n > 0 {
+        s = 1.0 - s * q / sine_divisor(n);
+        c = 1.0 - c * q / cosine_divisor(n);
+        n -= 1;
+    }
+    SinCos { sin: a * s, cos: c }
+}
+
+pub fn sin(a: f64) -> f64
+    ensures { λ r. ⌜ r ≡ sineOf a ⌝ }
+{
+    let both = sin_cos(a);
+    both.sin
+}
+
+pub fn cos(a: f64) -> f64
+    ensures { λ r. ⌜ r ≡ cosineOf a ⌝ }
+{
+    let both = sin_cos(a);
+    both.cos
+}
+
+fn exp_series(z: f64) -> f64
+    ensures { λ r. ⌜ r ≡ expSeriesOf z ⌝ }
+{
+    let mut e = 1.0;
+    let mut n: usize = 18;
+    while n > 0 {
+        e = 1.0 + e * z / (n as f64);
+        n -= 1;
+    }
+    e
+}
+
+fn squared(a: f64, times: usize) -> f64
+    ensures { λ r. ⌜ r ≡ squarings times a ⌝ }
+{
+    let mut e = a;
+    let mut k = times;
+    while k > 0 {
+        e = e * e;
+        k -= 1;
+    }
+    e
+}
+
+pub fn exp(y: f64) -> f64
+    ensures { λ r. ⌜ r ≡ expOf y ⌝ }
+{
+    if y < -700.0 {
+        return 0.0;
+    }
+    if y > 0.0 {
+        return 0.0 / 0.0;
+    }
+    if y != y {
+        return 0.0 / 0.0;
+    }
+    squared(exp_series(y / 1024.0), 10)
+}
+
+// The tangent of half the angle whose tangent is r.
+fn halved(r: f64) -> f64
+    ensures { λ h. ⌜ h ≡ halvedOf r ⌝ }
+{
+    r / (1.0 + root::sqrt(1.0 + r * r))
+}
+
+fn arc_series(r: f64) -> f64
+    ensures { λ s. ⌜ s ≡ arcSeriesOf r ⌝ }
+{
+    let q = r * r;
+    let mut s = 1.0 / 25.0;
+    let mut n: usize = 12;
+    while n > 0 {
+        s = 1.0 / ((2 * n - 1) as f64) - s * q;
+        n -= 1;
+    }
+    s
+}
+
+// The angle whose tangent is r, for 0 <= r <= 1.
+fn small_angle(r: f64) -> f64
+    ensures { λ a. ⌜ a ≡ smallAngleOf r ⌝ }
+{
+    let h = halved(halved(r));
+    4.0 * (h * arc_series(h))
+}
+
+pub fn atan2(n: f64, w: f64) -> f64
+    ensures { λ a. ⌜ a ≡ atan2Of n w ⌝ }
+{
+    if n > w {
+        return 1.5707963267948966 - small_angle(w / n);
+    }
+    small_angle(n / w)
+}

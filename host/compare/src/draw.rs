@@ -1,0 +1,294 @@
+//! Where inputs come from: a small seeded generator, the edges every leaf is
+//! asked, and ways to draw floats, quaternions and vectors.
+
+/// SplitMix64: quick, and every seed will do.
+pub struct Draw {
+    state: u64,
+    edges: Vec<f64>,
+}
+
+/// Values at which something changes in document 01: range ends, tolerances,
+/// bounds, steps and constants. Their negatives and their neighbours by one
+/// ulp are added below.
+#[allow(clippy::approx_constant)]
+const MARKS: [f64; 44] = [
+    0.0,
+    f64::MIN_POSITIVE,
+    0.5,
+    1.0,
+    1.5,
+    2.0,
+    3.0,
+    4.0,
+    8.0,
+    10.0,
+    16.0,
+    25.0,
+    60.0,
+    64.0,
+    100.0,
+    160.0,
+    700.0,
+    999.0,
+    1024.0,
+    0.0000001,
+    0.000001,
+    0.0001,
+    0.001,
+    0.01,
+    0.02,
+    0.05,
+    0.1,
+    0.9466181999720432,
+    0.9640877546898133,
+    0.999999999,
+    1.000000001,
+    std::f64::consts::FRAC_1_SQRT_2,
+    std::f64::consts::SQRT_2,
+    std::f64::consts::FRAC_PI_4,
+    std::f64::consts::FRAC_PI_2,
+    3.14159260,
+    std::f64::consts::PI,
+    std::f64::consts::TAU,
+    708.0,
+    745.0,
+    9007199254740992.0,
+    1e154,
+    1e-162,
+    f64::MAX,
+];
+
+/// NaNs quiet and signalling, of both signs, with and without a payload.
+pub const NANS: [u64; 6] = [
+    0x7ff8_0000_0000_0000,
+    0xfff8_0000_0000_0000,
+    0x7ff0_0000_0000_0001,
+    0xfff0_0000_0000_0001,
+    0x7fff_ffff_ffff_ffff,
+    0x7ff8_dead_beef_0001,
+];
+
+/// Few values, for every combination of them in several places at once.
+pub const CORNERS: [f64; 14] = [
+    0.0,
+    -0.0,
+    1.0,
+    -1.0,
+    0.5,
+    -0.5,
+    std::f64::consts::FRAC_1_SQRT_2,
+    -std::f64::consts::FRAC_1_SQRT_2,
+    5e-324,
+    -5e-324,
+    f64::MAX,
+    f64::INFINITY,
+    f64::NEG_INFINITY,
+    f64::NAN,
+];
+
+/// Zeros and ones of both signs.
+pub const SIGNS: [f64; 4] = [0.0, -0.0, 1.0, -1.0];
+
+impl Draw {
+    pub fn new(seed: u64) -> Self {
+        let mut edges = Vec::new();
+        for mark in MARKS {
+            for v in [mark, mark.next_up(), mark.next_down()] {
+                edges.extend([v, -v]);
+            }
+        }
+        let largest_subnormal = f64::MIN_POSITIVE.next_down();
+        edges.extend([
+            largest_subnormal.next_down(),
+            -largest_subnormal.next_down(),
+        ]);
+        edges.extend([f64::INFINITY, f64::NEG_INFINITY]);
+        edges.extend(NANS.map(f64::from_bits));
+        edges.sort_by_key(|v| v.to_bits());
+        edges.dedup_by_key(|v| v.to_bits());
+        Self { state: seed, edges }
+    }
+
+    /// The marks with their neighbours, infinities and NaNs.
+    pub fn edges(&self) -> Vec<f64> {
+        self.edges.clone()
+    }
+
+    #[inline]
+    pub fn word(&mut self) -> u64 {
+        self.state = self.state.wrapping_add(0x9e37_79b9_7f4a_7c15);
+        let z = (self.state ^ (self.state >> 30)).wrapping_mul(0xbf58_476d_1ce4_e5b9);
+        let z = (z ^ (z >> 27)).wrapping_mul(0x94d0_49bb_1331_11eb);
+        z ^ (z >> 31)
+    }
+
+    /// A whole number from 0 to below `n`.
+    #[inline]
+    pub fn below(&mut self, n: usize) -> usize {
+        ((u128::from(self.word()) * n as u128) >> 64) as usize
+    }
+
+    #[inline]
+    pub fn pick<T: Copy>(&mut self, list: &[T]) -> T {
+        list[self.below(list.len())]
+    }
+
+    /// Any bit pattern.
+    #[inline]
+    pub fn bits(&mut self) -> f64 {
+        f64::from_bits(self.word())
+    }
+
+    #[inline]
+    pub fn between(&mut self, low: f64, high: f64) -> f64 {
+        low + (high - low) * ((self.word() >> 11) as f64 / 9007199254740992.0)
+    }
+
+    /// Any size from 2^-`most` to 1, either sign.
+    #[inline]
+    pub fn small(&mut self, most: u64) -> f64 {
+        let word = self.word();
+        let exponent = 1022 - (word >> 52) % most;
+        f64::from_bits((self.word() & 0x800f_ffff_ffff_ffff) | exponent << 52)
+    }
+
+    #[inline]
+    pub fn subnormal(&mut self) -> f64 {
+        let word = self.word();
+        let fraction = (word & 0x000f_ffff_ffff_ffff) >> ((word >> 58) % 52);
+        f64::from_bits(fraction | (word & (1 << 57)) << 6)
+    }
+
+    /// An edge, or a float a few ulps beside one.
+    #[inline]
+    pub fn edge(&mut self) -> f64 {
+        let at = self.below(self.edges.len());
+        let edge = self.edges[at];
+        match self.word() % 4 {
+            0 => f64::from_bits(edge.to_bits().wrapping_add(self.word() % 9).wrapping_sub(4)),
+            _ => edge,
+        }
+    }
+
+    /// A float of no particular leaf: patterns, edges, and the ranges of
+    /// joints, displacements and limits with a little beyond.
+    #[inline]
+    pub fn any(&mut self) -> f64 {
+        match self.word() % 8 {
+            0 | 1 => self.bits(),
+            2 => self.edge(),
+            3 => self.between(-8.000001, 8.000001),
+            4 => self.between(-10.000001, 10.000001),
+            5 => self.between(-100.00001, 100.00001),
+            6 => self.small(60),
+            _ => self.subnormal(),
+        }
+    }
+
+    /// Each float of another kind than the last.
+    pub fn anys<const N: usize>(&mut self) -> [f64; N] {
+        std::array::from_fn(|_| self.any())
+    }
+
+    /// A vector with sizes as in an arm's frames.
+    pub fn vector(&mut self) -> [f64; 3] {
+        match self.word() % 8 {
+            0 => std::array::from_fn(|_| self.pick(&SIGNS)),
+            1 => std::array::from_fn(|_| self.small(60)),
+            2 => std::array::from_fn(|_| self.between(-160.0, 160.0)),
+            3 => self.anys(),
+            _ => std::array::from_fn(|_| self.between(-10.0, 10.0)),
+        }
+    }
+
+    /// Mostly of length 1 as near as floats allow; now and then with w of
+    /// either zero or negative, with no turn, or of any floats at all.
+    pub fn quaternion(&mut self) -> [f64; 4] {
+        let mut q: [f64; 4] = std::array::from_fn(|_| self.between(-1.0, 1.0));
+        match self.word() % 16 {
+            0 => q[0] = 0.0,
+            1 => q[0] = -0.0,
+            2 => q = [self.pick(&[1.0, -1.0]), 0.0, -0.0, 0.0],
+            3 => return std::array::from_fn(|_| self.pick(&CORNERS)),
+            4 => return self.anys(),
+            5 => {
+                let scale = self.small(600);
+                q = [q[0], q[1] * scale, q[2] * scale, q[3] * scale];
+            }
+            6 => {
+                let at = 1 + self.below(3);
+                q = [q[0], 0.0, 0.0, 0.0];
+                q[at] = self.between(-1.0, 1.0);
+            }
+            7 => q = std::array::from_fn(|_| self.pick(&CORNERS[..8])),
+            _ => {}
+        }
+        let size = (q[0] * q[0] + q[1] * q[1] + q[2] * q[2] + q[3] * q[3]).sqrt();
+        if size > 0.0 {
+            q.map(|c| c / size)
+        } else {
+            q
+        }
+    }
+}
+
+/// Every way to put the values into N places.
+pub fn grid<const N: usize>(values: &[f64]) -> impl Iterator<Item = [f64; N]> + '_ {
+    let count = values.len();
+    (0..count.pow(N as u32)).map(move |mut number| {
+        std::array::from_fn(|_| {
+            let value = values[number % count];
+            number /= count;
+            value
+        })
+    })
+}
+
+#[cfg(test)]
+mod tests {
+    use super::*;
+
+    #[test]
+    fn equal_seeds_give_equal_draws() {
+        let (mut a, mut b) = (Draw::new(7), Draw::new(7));
+        for _ in 0..100 {
+            assert_eq!(a.any().to_bits(), b.any().to_bits());
+        }
+    }
+
+    #[test]
+    fn draws_stay_where_they_should() {
+        let mut draw = Draw::new(1);
+        let mut least = f64::MAX;
+        for _ in 0..100_000 {
+            let v = draw.between(-8.0, 8.0);
+            assert!((-8.0..=8.0).contains(&v));
+            let v = draw.small(60).abs();
+            assert!((0.5f64.powi(60)..1.0).contains(&v), "{v}");
+            let v = draw.subnormal();
+            assert!(v.abs() < f64::MIN_POSITIVE);
+            if v != 0.0 {
+                least = least.min(v.abs());
+            }
+            assert!(draw.below(6) < 6);
+        }
+        assert!(least < 1e-322, "short subnormals are drawn too");
+    }
+
+    #[test]
+    fn edges_hold_both_zeros_nans_and_neighbours() {
+        let edges = Draw::new(0).edges();
+        let has = |bits: u64| edges.iter().any(|v| v.to_bits() == bits);
+        assert!(has(0) && has(1 << 63) && has(1) && has(1 << 63 | 1));
+        assert!(NANS.iter().all(|&bits| has(bits)));
+        assert!(has((-700.0f64).next_down().to_bits()));
+        assert!(has(f64::MIN_POSITIVE.next_down().to_bits()));
+    }
+
+    #[test]
+    fn a_grid_has_every_combination() {
+        let all: Vec<[f64; 3]> = grid(&[1.0, 2.0]).collect();
+        assert_eq!(all.len(), 8);
+        assert!(all.contains(&[2.0, 1.0, 2.0]));
+    }
+}

@@ -1,0 +1,30 @@
+//! The published files of relaxed_ik_core (commit 1c48d2ae40, MIT, see
+//! LICENSE), run on document 01's stand-ins. README.md lists every place where
+//! a file differs from the published one. `sheet` is ours: it makes the
+//! published structures from plain numbers.
+
+#![forbid(unsafe_code)]
+// The published files are left as they are written.
+#![allow(dead_code, non_snake_case, unused, clippy::all)]
+
+// Formatting leaves them alone too.
+#[rustfmt::skip]
+pub mod groove {
+    pub mod objective;
+    pub mod objective_master;
+    pub mod vars;
+}
+
+#[rustfmt::skip]
+pub mod spacetime {
+    pub mod arm;
+    pub mod robot;
+}
+
+#[rustfmt::skip]
+pub mod utils_rust {
+    pub mod transformations;
+}
+
+#[warn(dead_code, non_snake_case, unused, clippy::all)]
+pub mod sheet;
