@@ -1,5 +1,5 @@
 # make run: the main job on sample input.  make test: the whole gate.
-CASES ?= 200000
+CASES ?= 2000000
 SEED ?= 1
 
 .PHONY: run test library host compare bench

@@ -1,7 +1,7 @@
 //! The leaves on matrices, which cross as bytes.
 
 use crate::draw::{Draw, NANS, SIGNS};
-use crate::run::{Kind, Run};
+use crate::run::{describe, matches, Kind, Run};
 use nalgebra::DMatrix;
 
 const SIDE: usize = 6;
@@ -12,7 +12,7 @@ pub fn kinds() -> Vec<Kind> {
     let kind = |name, about, run| Kind { name, about, run };
     vec![
         kind("determinant", "determinant of a 6 by 6 matrix", determinant),
-        kind("gram", "all entries of J times J transposed", gram),
+        kind("gram", "an entry of J times J transposed", gram),
     ]
 }
 
@@ -179,24 +179,36 @@ fn jacobian(draw: &mut Draw, count: usize) -> Vec<[f64; SIDE]> {
         .collect()
 }
 
+/// A call answers one entry. All of them are asked at the edges, one of them a
+/// draw. Row and column go first, so that a difference shows them.
 fn gram(run: &mut Run) {
     let mut bytes = Vec::new();
-    let mut check = |run: &mut Run, columns: &[[f64; SIDE]]| {
+    let mut check = |run: &mut Run, columns: &[[f64; SIDE]], row: usize, column: usize| {
         proved::put_floats(columns.as_flattened(), &mut bytes);
-        let proved: [f64; SIDE * SIDE] =
-            std::array::from_fn(|i| proved::gram(&bytes, (i / SIDE) as u32, (i % SIDE) as u32));
+        let proved = proved::gram(&bytes, row as u32, column as u32);
         let j = DMatrix::from_fn(SIDE, columns.len(), |r, c| columns[c][r]);
-        let product = j.clone() * j.transpose();
-        let reference: [f64; SIDE * SIDE] = std::array::from_fn(|i| product[(i / SIDE, i % SIDE)]);
-        run.floats(columns.as_flattened(), &proved, &reference);
+        let reference = (j.clone() * j.transpose())[(row, column)];
+        run.case(matches(proved, reference), || {
+            let place = [row as f64, column as f64];
+            let input = [&place, columns.as_flattened()].concat();
+            describe(&input, &[proved], &[reference])
+        });
     };
     for count in 0..=MOST_COLUMNS {
         let unit = |at: usize| std::array::from_fn(|r| if r == at { 1.0 } else { 0.0 });
-        let columns: Vec<[f64; SIDE]> = (0..count).map(unit).collect();
-        check(run, &columns);
-        check(run, &vec![[-0.0; SIDE]; count]);
-        check(run, &vec![[f64::MAX; SIDE]; count]);
-        check(run, &vec![[5e-324; SIDE]; count]);
+        let counted = |at: usize| std::array::from_fn(|r| (at * SIDE + r) as f64 / 10.0);
+        let every: [Vec<[f64; SIDE]>; 5] = [
+            (0..count).map(unit).collect(),
+            (0..count).map(counted).collect(),
+            vec![[-0.0; SIDE]; count],
+            vec![[f64::MAX; SIDE]; count],
+            vec![[5e-324; SIDE]; count],
+        ];
+        for columns in &every {
+            for entry in 0..SIDE * SIDE {
+                check(run, columns, entry / SIDE, entry % SIDE);
+            }
+        }
     }
     while run.more() {
         let count = run.draw.below(MOST_COLUMNS + 1);
@@ -204,6 +216,7 @@ fn gram(run: &mut Run) {
             0 => (0..count).map(|_| run.draw.anys()).collect(),
             _ => jacobian(&mut run.draw, count),
         };
-        check(run, &columns);
+        let (row, column) = (run.draw.below(SIDE), run.draw.below(SIDE));
+        check(run, &columns, row, column);
     }
 }

@@ -159,7 +159,7 @@ pub fn matches(a: f64, b: f64) -> bool {
 }
 
 /// Every float in decimal and in bits, so that a case can be run again.
-fn describe(input: &[f64], proved: &[f64], reference: &[f64]) -> String {
+pub fn describe(input: &[f64], proved: &[f64], reference: &[f64]) -> String {
     let mut text = String::new();
     for (i, v) in input.iter().enumerate() {
         let _ = writeln!(text, "  input {i:<2}     {:016x} {v:e}", v.to_bits());
