@@ -3,7 +3,7 @@ ghost use mathlib.Core.Path.{_≡_};
 ghost use Rattle.root.specs.Root.{rootOf, IsRoot};
 ghost use Rattle.standins.specs.Num.{absOf};
 ghost use Rattle.standins.specs.Cut.{cutOf};
-ghost use Rattle.standins.specs.Power.{power20Of, power30Of, b20, b30, NearestPth};
+ghost use Rattle.standins.specs.Power.{power20Of, power30Of, b20, b30, IsB};
 ghost use Rattle.standins.specs.Series.{sineOf, cosineOf, expOf, atan2Of};
 
 #[no_mangle]
@@ -59,17 +59,17 @@ pub extern "C" fn relaxed_ik_power30(a: f64) -> f64
 #[no_mangle]
 pub extern "C" fn relaxed_ik_b20() -> f64
     ensures same { λ r. ⌜ r ≡ b20 ⌝ }
-    ensures nearest { λ r. ⌜ NearestPth 20 1000000000000000 2995732273553991 r ⌝ }
+    ensures nearest { λ r. ⌜ IsB 20 r ⌝ }
 {
-    standins::power::root20()
+    standins::power::b20()
 }
 
 #[no_mangle]
 pub extern "C" fn relaxed_ik_b30() -> f64
     ensures same { λ r. ⌜ r ≡ b30 ⌝ }
-    ensures nearest { λ r. ⌜ NearestPth 30 1000000000000000 2995732273553991 r ⌝ }
+    ensures nearest { λ r. ⌜ IsB 30 r ⌝ }
 {
-    standins::power::root30()
+    standins::power::b30()
 }
 
 #[no_mangle]

@@ -8,9 +8,9 @@ ghost use mathlib.Core.Path.{_≡_};
 ghost use Rattle.geometry.specs.Vector.{crossOf, normOf};
 ghost use Rattle.geometry.specs.Quaternion.{productOf, inverseOf, rotateOf, scaledAxisOf};
 ghost use Rattle.geometry.specs.Segment.{distanceOf};
-ghost use Rattle.exports.specs.Parts.{vec, quat, vecPart, quatPart, getQuat};
+ghost use Rattle.exports.specs.Parts.{vec, quat, vecPart, quatPart, getQuatPart};
 
-// Component `part` of a vector: 0 to 2 for x, y, z; any other is z.
+// Component `part` of a vector: 0 to 2 for x, y, z; any other is a NaN.
 fn vec_part(v: Vec3, part: u32) -> f64
     ensures { λ r. ⌜ r ≡ vecPart v part ⌝ }
 {
@@ -20,10 +20,13 @@ fn vec_part(v: Vec3, part: u32) -> f64
     if part == 1 {
         return v.y;
     }
-    v.z
+    if part == 2 {
+        return v.z;
+    }
+    0.0 / 0.0
 }
 
-// Component `part` of a quaternion: 0 to 3 for w, i, j, k; any other is k.
+// Component `part` of a quaternion: 0 to 3 for w, i, j, k; any other is a NaN.
 fn quat_part(q: Quat, part: u32) -> f64
     ensures { λ r. ⌜ r ≡ quatPart q part ⌝ }
 {
@@ -36,7 +39,10 @@ fn quat_part(q: Quat, part: u32) -> f64
     if part == 2 {
         return q.j;
     }
-    q.k
+    if part == 3 {
+        return q.k;
+    }
+    0.0 / 0.0
 }
 
 #[no_mangle]
@@ -121,10 +127,10 @@ pub extern "C" fn relaxed_ik_norm(x: f64, y: f64, z: f64) -> f64
     vector::norm(Vec3 { x, y, z })
 }
 
-// Axis 0 to 2 for x, y, z; any other is z.
+// Axis 0 to 2 for x, y, z; any other is a NaN.
 #[no_mangle]
 pub extern "C" fn relaxed_ik_get_quat(axis: u32, v: f64, part: u32) -> f64
-    ensures { λ r. ⌜ r ≡ quatPart (getQuat axis v) part ⌝ }
+    ensures { λ r. ⌜ r ≡ getQuatPart axis v part ⌝ }
 {
     if axis == 0 {
         return quat_part(quaternion::get_quat_x(v), part);
@@ -132,7 +138,10 @@ pub extern "C" fn relaxed_ik_get_quat(axis: u32, v: f64, part: u32) -> f64
     if axis == 1 {
         return quat_part(quaternion::get_quat_y(v), part);
     }
-    quat_part(quaternion::get_quat_z(v), part)
+    if axis == 2 {
+        return quat_part(quaternion::get_quat_z(v), part);
+    }
+    0.0 / 0.0
 }
 
 #[no_mangle]

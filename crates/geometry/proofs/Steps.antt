@@ -10,7 +10,7 @@ use lib.Ieee.{Float, lt, eq}
 use lib.ListN.{length, set, length-set}
 use borrow.Author.Tests.{lt-ltb, le-ltb, eq-eqb, ne-eqb}
 use Rattle.standins.specs.Num.{_⊖_, _⊗_, _⊘_, nought, absOf}
-use Rattle.geometry.specs.Matrix.{entry, matrixOf, largerOf, largestOf, pivotRowOf, otherRow, swapOf, swapCount, lostOf, loseRowOf, loseOf, diagonalOf, signedOf, stepsOf}
+use Rattle.geometry.specs.Matrix.{entry, matrixOf, largerOf, largestOf, pivotRowOf, otherRow, swapOf, swapCount, eliminatedOf, eliminateRowOf, eliminateOf, diagonalOf, signedOf, stepsOf}
 use Rattle.geometry.proofs.Tables.{same-or, below-or, length-matrix, entry-matrix, matrix-is, entry-set-same, entry-set-other, columnsOf, columns-ahead, columns-turn, length-columns}
 
 -- ---- the pivot's row
@@ -109,11 +109,11 @@ swap-turn m cur k p c hk hp hc e =
 
 -- ---- row i loses, column by column
 abbrev pub lost : List Float → ℕ → ℕ → ℕ → ℕ → Float
-lost m k i r j = cond (eqb r i) (lostOf m k r j) (entry m r j)
+lost m k i r j = cond (eqb r i) (eliminatedOf m k r j) (entry m r j)
 
 pub lose-turn : (m cur : List Float) (k i c : ℕ) → k < 6 → i < 6 → c < 6 → cur ≡ columnsOf c (lost m k i) (entry m)
     → set cur (6 * i + c) (entry cur i c ⊖ entry m i k ⊘ entry m k k ⊗ entry cur k c) ≡ columnsOf (c + 1) (lost m k i) (entry m)
-unfolding lostOf
+unfolding eliminatedOf
 lose-turn m cur k i c hk hi hc e =
     columns-turn (lost m k i) (entry m) c cur (set cur (6 * i + c) v) e (length-set cur (6 * i + c) v ∙ lc)
     (λ r hr.
@@ -140,15 +140,15 @@ lose-turn m cur k i c hk hi hc e =
 
 -- ---- the rows below k lose, row by row: those before row i have
 unfoldable pub rowsOf : List Float → ℕ → ℕ → List Float
-rowsOf m k i = matrixOf (λ r j. cond (ltb r i) (cond (ltb k r) (lostOf m k r j) (entry m r j)) (entry m r j))
+rowsOf m k i = matrixOf (λ r j. cond (ltb r i) (cond (ltb k r) (eliminatedOf m k r j) (entry m r j)) (entry m r j))
 
-pub length-lose : (m : List Float) (k : ℕ) → length (loseOf m k) ≡ 36
-unfolding loseOf
-length-lose m k = length-matrix (λ i j. cond (ltb k i) (lostOf m k i j) (entry m i j))
+pub length-eliminate : (m : List Float) (k : ℕ) → length (eliminateOf m k) ≡ 36
+unfolding eliminateOf
+length-eliminate m k = length-matrix (λ i j. cond (ltb k i) (eliminatedOf m k i j) (entry m i j))
 
 module _ (m : List Float) (k : ℕ) where
   abbrev row : ℕ → ℕ → ℕ → Float
-  row i r j = cond (ltb r i) (cond (ltb k r) (lostOf m k r j) (entry m r j)) (entry m r j)
+  row i r j = cond (ltb r i) (cond (ltb k r) (eliminatedOf m k r j) (entry m r j)) (entry m r j)
 
   pub length-rows : (i : ℕ) → length (rowsOf m k i) ≡ 36
   unfolding rowsOf
@@ -161,10 +161,10 @@ module _ (m : List Float) (k : ℕ) where
       (λ r j hr hj.
       ⊎-elim (λ (b : k < r). rw (le-ltb r (k + 1) (omega arith))) (λ (b : r ≤ k). rw (lt-ltb r (k + 1) (omega arith), le-ltb k r b)) (below-or k r))
 
-  pub rows-all : (i : ℕ) → 6 ≤ i → rowsOf m k i ≡ loseOf m k
-  unfolding rowsOf loseOf
+  pub rows-all : (i : ℕ) → 6 ≤ i → rowsOf m k i ≡ eliminateOf m k
+  unfolding rowsOf eliminateOf
   rows-all i b =
-      matrix-is (λ r j. cond (ltb k r) (lostOf m k r j) (entry m r j)) (matrixOf (row i)) (length-matrix (row i))
+      matrix-is (λ r j. cond (ltb k r) (eliminatedOf m k r j) (entry m r j)) (matrixOf (row i)) (length-matrix (row i))
       (λ r j hr hj. entry-matrix (row i) r j hr hj ∙ rw (lt-ltb r i (omega arith)))
 
   -- the rows that the loop has not come to stay, and so does row k
@@ -178,13 +178,13 @@ module _ (m : List Float) (k : ℕ) where
       entry-matrix (row i) k j hk hj
       ∙ ⊎-elim (λ (b : k < i). rw (lt-ltb k i b, le-ltb k k (omega arith))) (λ (b : i ≤ k). rw (le-ltb k i b)) (below-or k i)
 
-  lost-same : (i j : ℕ) → k < i → i < 6 → j < 6 → lostOf (rowsOf m k i) k i j ≡ lostOf m k i j
-  unfolding lostOf
+  lost-same : (i j : ℕ) → k < i → i < 6 → j < 6 → eliminatedOf (rowsOf m k i) k i j ≡ eliminatedOf m k i j
+  unfolding eliminatedOf
   lost-same i j hk hi hj =
       rw (rows-stay i i j hi hj (omega arith), rows-stay i i k hi (omega arith) (omega arith), rows-pivot i k (omega arith) (omega arith), rows-pivot i j (omega arith) hj)
 
-  pub rows-turn : (i : ℕ) → k < i → i < 6 → loseRowOf (rowsOf m k i) k i ≡ rowsOf m k (i + 1)
-  unfolding rowsOf loseRowOf
+  pub rows-turn : (i : ℕ) → k < i → i < 6 → eliminateRowOf (rowsOf m k i) k i ≡ rowsOf m k (i + 1)
+  unfolding rowsOf eliminateRowOf
   rows-turn i hk hi =
       let cur : List Float = rowsOf m k i in
       matrix-is (row (i + 1)) (matrixOf (lost cur k i)) (length-matrix (lost cur k i))
@@ -218,13 +218,13 @@ module _ (m : List Float) (swaps k p : ℕ) (d : Float) (e : p ≡ pivotRowOf m 
       let z′ : eq (entry m (pivotRowOf m k) k) nought ≡ true = rw e at z in
       sym (rw (n, z′)) ∙ left
 
-  pub steps-turn : (r : ℕ) (a b : List Float) → k < 6 → eq (entry m p k) nought ≡ false → r ≡ swapCount k p → a ≡ swapOf m k p → b ≡ loseOf a k
+  pub steps-turn : (r : ℕ) (a b : List Float) → k < 6 → eq (entry m p k) nought ≡ false → r ≡ swapCount k p → a ≡ swapOf m k p → b ≡ eliminateOf a k
       → stepsOf b (swaps + r) (k + 1) (6 - (k + 1)) ≡ d
   unfolding stepsOf
   steps-turn r a b h z er ea eb =
       let n : 6 - k ≡ suc (6 - (k + 1)) = omega arith in
       let z′ : eq (entry m (pivotRowOf m k) k) nought ≡ false = rw e at z in
-      let more : stepsOf m swaps k (6 - k) ≡ stepsOf (loseOf (swapOf m k (pivotRowOf m k)) k) (swaps + swapCount k (pivotRowOf m k)) (k + 1) (6 - (k + 1)) = rw (n, z′) in
+      let more : stepsOf m swaps k (6 - k) ≡ stepsOf (eliminateOf (swapOf m k (pivotRowOf m k)) k) (swaps + swapCount k (pivotRowOf m k)) (k + 1) (6 - (k + 1)) = rw (n, z′) in
       cc
 
 pub steps-done : (m : List Float) (swaps k : ℕ) (d : Float) → 6 ≤ k → stepsOf m swaps k (6 - k) ≡ d → signedOf swaps (diagonalOf m) ≡ d

@@ -48,16 +48,16 @@ unfoldable pub swapCount : ℕ → ℕ → ℕ
 swapCount k p = cond (eqb k p) 0 1
 
 -- row i's entry in column j, less (entry/pivot)·(pivot row), the pivot being row k's entry in column k
-unfoldable pub lostOf : List Float → ℕ → ℕ → ℕ → Float
-lostOf m k i j = entry m i j ⊖ (entry m i k ⊘ entry m k k) ⊗ entry m k j
+unfoldable pub eliminatedOf : List Float → ℕ → ℕ → ℕ → Float
+eliminatedOf m k i j = entry m i j ⊖ (entry m i k ⊘ entry m k k) ⊗ entry m k j
 
 -- row i loses
-unfoldable pub loseRowOf : List Float → ℕ → ℕ → List Float
-loseRowOf m k i = matrixOf (λ r j. cond (eqb r i) (lostOf m k r j) (entry m r j))
+unfoldable pub eliminateRowOf : List Float → ℕ → ℕ → List Float
+eliminateRowOf m k i = matrixOf (λ r j. cond (eqb r i) (eliminatedOf m k r j) (entry m r j))
 
 -- each row below k loses
-unfoldable pub loseOf : List Float → ℕ → List Float
-loseOf m k = matrixOf (λ i j. cond (ltb k i) (lostOf m k i j) (entry m i j))
+unfoldable pub eliminateOf : List Float → ℕ → List Float
+eliminateOf m k = matrixOf (λ i j. cond (ltb k i) (eliminatedOf m k i j) (entry m i j))
 
 -- the product of the diagonal, from 1
 unfoldable pub diagonalOf : List Float → Float
@@ -73,7 +73,7 @@ stepsOf m swaps k zero = signedOf swaps (diagonalOf m)
 stepsOf m swaps k (suc n) =
     let p = pivotRowOf m k in
     cond (eq (entry m p k) nought) nought
-    (stepsOf (loseOf (swapOf m k p) k) (swaps + swapCount k p) (k + 1) n)
+    (stepsOf (eliminateOf (swapOf m k p) k) (swaps + swapCount k p) (k + 1) n)
 
 -- all six steps, from column 0
 unfoldable pub determinantOf : List Float → Float

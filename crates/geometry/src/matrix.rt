@@ -3,9 +3,9 @@ use standins::cut;
 ghost use mathlib.Core.Path.{_≡_};
 ghost use Prim.Native.Nat.{_<_};
 ghost use lib.ListN.{length};
-ghost use Rattle.geometry.specs.Matrix.{largerOf, pivotRowOf, swapOf, swapCount, loseRowOf, loseOf, diagonalOf, determinantOf, sumOf, gramOf};
+ghost use Rattle.geometry.specs.Matrix.{largerOf, pivotRowOf, swapOf, swapCount, eliminateRowOf, eliminateOf, diagonalOf, determinantOf, sumOf, gramOf};
 
-// Of rows p and i the one with the larger entry in column k, p on a tie.
+// Of rows p and i the one with the larger absolute value in column k, p on a tie.
 fn larger(m: &[f64; 36], k: usize, p: usize, i: usize) -> usize
     requires { ⌜ (k < 6) × (p < 6) × (i < 6) ⌝ }
     ensures { λ r. ⌜ r ≡ largerOf (now (m .entry)) k p i ⌝ }
@@ -54,9 +54,9 @@ fn exchange(m: &mut [f64; 36], k: usize, p: usize) -> usize
     1
 }
 
-fn lose_row(m: &mut [f64; 36], k: usize, i: usize)
+fn eliminate_row(m: &mut [f64; 36], k: usize, i: usize)
     requires { ⌜ (k < i) × (i < 6) × (length (now m) ≡ 36) ⌝ }
-    ensures { λ _. ⌜ now (m .exit) ≡ loseRowOf (now (m .entry)) k i ⌝ }
+    ensures { λ _. ⌜ now (m .exit) ≡ eliminateRowOf (now (m .entry)) k i ⌝ }
 {
     let f = m[6 * i + k] / m[6 * k + k];
     let mut c = 0;
@@ -66,13 +66,13 @@ fn lose_row(m: &mut [f64; 36], k: usize, i: usize)
     }
 }
 
-fn lose_below(m: &mut [f64; 36], k: usize)
+fn eliminate_below(m: &mut [f64; 36], k: usize)
     requires { ⌜ (k < 6) × (length (now m) ≡ 36) ⌝ }
-    ensures { λ _. ⌜ now (m .exit) ≡ loseOf (now (m .entry)) k ⌝ }
+    ensures { λ _. ⌜ now (m .exit) ≡ eliminateOf (now (m .entry)) k ⌝ }
 {
     let mut i = k + 1;
     while i < 6 {
-        lose_row(m, k, i);
+        eliminate_row(m, k, i);
         i += 1;
     }
 }
@@ -95,7 +95,7 @@ pub fn determinant(m: [f64; 36]) -> f64
             return 0.0;
         }
         swaps += exchange(&mut a, k, p);
-        lose_below(&mut a, k);
+        eliminate_below(&mut a, k);
         k += 1;
     }
     let d = diagonal(&a);

@@ -122,7 +122,7 @@ fn turn_axis(q: Quat) -> Vec3
     u
 }
 
-// The axis of the turn that q is, as long as its angle.
+// The rotation axis of q, its length the rotation angle.
 pub fn scaled_axis(q: Quat) -> Vec3
     ensures { λ r. ⌜ r ≡ scaledAxisOf q ⌝ }
 {

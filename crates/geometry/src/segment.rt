@@ -5,7 +5,7 @@ use standins::cut;
 ghost use mathlib.Core.Path.{_≡_};
 ghost use Rattle.geometry.specs.Segment.{innerOf, endedOf, closestOf, pointOf, distanceOf};
 
-// How far along the first and the second segment a point lies, each from 0 to 1.
+// How far along the first and the second segment the nearest points lie, in shares of their lengths.
 struct Parameters {
     s: f64,
     t: f64,

@@ -9,7 +9,7 @@ use lib.ListN.{length, take, drop, getD, set, length-append, length-take, length
 use lib.Seq.{take-at, drop-at, getD-take, getD-drop, getD-append-add, take-append-le, drop-append-add, drop-drop, set-split, length-take-le, take-take, sets, sets-eq}
 
 module _ {A : Type 0} where
-  -- xs, with ys in the place of as many from at
+  -- xs, with ys in the place of as many from at, where they fit
   unfoldable pub splice : List A → ℕ → List A → List A
   splice xs at ys = take at xs ++ (ys ++ drop (at + length ys) xs)
 

@@ -1,4 +1,6 @@
 -- The f64 operators, each rounding once, and the constants that definitions share.
+-- `Float` has one `nan`: where a contract says `nan`, the result's bits are some NaN's, and its sign and digits stay free. Every other result is fixed to the bit,
+-- the sign of a zero included.
 use mathlib.Core.Path.{_≡_, refl}
 use Prim.Native.Nat.{ℕ}
 use mathlib.Core.Bool.{false}

@@ -15,13 +15,17 @@ power20Of a = squarings 2 a ⊗ squarings 4 a
 unfoldable pub power30Of : Float → Float
 power30Of a = squarings 1 a ⊗ squarings 2 a ⊗ squarings 3 a ⊗ squarings 4 a
 
--- c is nearer to the p-th root of a / b than any other f64 y that is not negative: the midpoint of c and y lies beyond the root.
--- The numbers are in units of 2 ^ -1074.
-pub record NearestPth (p a b : ℕ) (c : Float) : Type 0 where
-  pub held : T (fits binary64 c)
-  pub above : T (positive c)
-  pub over : (y : Float) → T (fits binary64 y) → T (notNegative y) → steps c < steps y → (2 * 2 ^ 1074) ^ p * a < (steps c + steps y) ^ p * b
-  pub under : (y : Float) → T (fits binary64 y) → T (notNegative y) → steps y < steps c → (steps c + steps y) ^ p * b < (2 * 2 ^ 1074) ^ p * a
+-- r is nearer to the p-th root of n / d than any other f64 y that is not negative: the midpoint of r and y lies beyond the root. The numbers are in units of
+-- 2 ^ -1074. A negative y is further away than +0.
+pub record NearestPth (p n d : ℕ) (r : Float) : Type 0 where
+  pub held : T (fits binary64 r)
+  pub above : T (positive r)
+  pub over : (y : Float) → T (fits binary64 y) → T (notNegative y) → steps r < steps y → (2 * 2 ^ 1074) ^ p * n < (steps r + steps y) ^ p * d
+  pub under : (y : Float) → T (fits binary64 y) → T (notNegative y) → steps y < steps r → (steps r + steps y) ^ p * d < (2 * 2 ^ 1074) ^ p * n
+
+-- r is the constant b for the power p: the f64 nearest the p-th root of 1/2.995732273553991, the decimal taken exactly
+abbrev pub IsB : ℕ → Float → Type 0
+IsB p r = NearestPth p (10 ^ 15) 2995732273553991 r
 
 -- the f64 nearest the 20th root of 1/2.995732273553991: 0.9466181999720432
 abbrev pub b20 : Float

@@ -75,7 +75,7 @@ arcTermOf q n s = one ⊘ whole (2 * n - 1) ⊖ s ⊗ q
 unfoldable pub arcSeriesOf : Float → Float
 arcSeriesOf r = downFrom (arcTermOf (r ⊗ r)) 12 (one ⊘ whole 25)
 
--- r halved twice, then 4·(r·s)
+-- the angle halved twice, then 4·(r·s)
 unfoldable pub smallAngleOf : Float → Float
 smallAngleOf r = let h = halvedOf (halvedOf r) in whole 4 ⊗ (h ⊗ arcSeriesOf h)
 

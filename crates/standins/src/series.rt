@@ -62,7 +62,7 @@ fn cosine_divisor(n: usize) -> f64
     COSINE_DIVISORS[n - 1]
 }
 
-// Both in one loop: the two chains of divisions do not wait for each other.
+// Sine and cosine, good for |a| up to about 4. Both in one loop: the two chains of divisions do not wait for each other.
 pub fn sin_cos(a: f64) -> SinCos
     ensures { λ r. ⌜ r ≡ sineCosineOf a ⌝ }
 {
@@ -116,6 +116,7 @@ fn squared(a: f64, times: usize) -> f64
     e
 }
 
+// The exponential, for y <= 0.
 pub fn exp(y: f64) -> f64
     ensures { λ r. ⌜ r ≡ expOf y ⌝ }
 {
@@ -159,6 +160,7 @@ fn small_angle(r: f64) -> f64
     4.0 * (h * arc_series(h))
 }
 
+// The angle whose tangent is n/w, for n > 0 and w >= 0.
 pub fn atan2(n: f64, w: f64) -> f64
     ensures { λ a. ⌜ a ≡ atan2Of n w ⌝ }
 {

@@ -175,14 +175,14 @@ pub fn segment_distance(s: [[f64; 3]; 4]) -> f64 {
     }
 }
 
-/// 36 floats in little-endian bytes, row after row; a missing one counts as
-/// NaN.
+/// 36 floats in little-endian bytes, row after row; NaN for another length.
 pub fn determinant(bytes: &[u8]) -> f64 {
     unsafe { c::relaxed_ik_determinant(bytes.as_ptr(), bytes.len()) }
 }
 
 /// The entry of J times J transposed. The bytes are J's columns, six
-/// little-endian floats each.
+/// little-endian floats each, at most sixteen columns; NaN for another length,
+/// and past row or column 5.
 pub fn gram(bytes: &[u8], row: u32, column: u32) -> f64 {
     unsafe { c::relaxed_ik_gram(bytes.as_ptr(), bytes.len(), row, column) }
 }

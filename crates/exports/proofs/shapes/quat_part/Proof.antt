@@ -1,5 +1,6 @@
 -- `quat_part` meets its contract: each return follows the tests before it. Assumes nothing.
 use borrow.Author.Tests.{eq-eqb, ne-eqb}
+use Rattle.standins.specs.Num.{no-number}
 use Rattle.exports.specs.Parts.{quatPart}
 use Rattle.exports.proofs.shapes.quat_part.Statement.{statement}
 use Rattle.exports.proofs.shapes.quat_part.Tie as tie
@@ -18,7 +19,11 @@ returns-3 c = rw (ne-eqb _ 0 (c .before .before .if1 .left), ne-eqb _ 1 (c .befo
 
 returns-4 : tie.Need-returns-4
 unfolding quatPart
-returns-4 c = rw (ne-eqb _ 0 (c .before .before .if1 .left), ne-eqb _ 1 (c .before .if2 .left), ne-eqb _ 2 (c .if3 .left))
+returns-4 c = rw (ne-eqb _ 0 (c .before .before .before .if1 .left), ne-eqb _ 1 (c .before .before .if2 .left), ne-eqb _ 2 (c .before .if3 .left), eq-eqb _ 3 (c .if4 .taken))
+
+returns-5 : tie.Need-returns-5
+unfolding quatPart
+returns-5 c = rw (ne-eqb _ 0 (c .before .before .before .if1 .left), ne-eqb _ 1 (c .before .before .if2 .left), ne-eqb _ 2 (c .before .if3 .left), ne-eqb _ 3 (c .if4 .left)) no-number
 
 pub quat-part-spec : {M : Type 1} → statement M
-quat-part-spec = tie.close (tie.spec returns returns-2 returns-3 returns-4)
+quat-part-spec = tie.close (tie.spec returns returns-2 returns-3 returns-4 returns-5)

@@ -1,6 +1,7 @@
 -- `relaxed_ik_get_quat` meets its contract: each return follows the tests before it. Assumes nothing.
 use borrow.Author.Tests.{eq-eqb, ne-eqb}
-use Rattle.exports.specs.Parts.{getQuat}
+use Rattle.standins.specs.Num.{no-number}
+use Rattle.exports.specs.Parts.{getQuatPart}
 use borrow.Author.Needs.{needs}
 use Rattle.exports.proofs.shapes.relaxed_ik_get_quat.Statement.{statement}
 use Rattle.exports.proofs.shapes.relaxed_ik_get_quat.Tie as tie
@@ -12,7 +13,7 @@ quat-part-requires : tie.Need-quat-part-requires
 quat-part-requires c κs = search needs
 
 returns : tie.Need-returns
-unfolding getQuat
+unfolding getQuatPart
 returns c = rw (eq-eqb _ 0 (c .before .before .if1 .taken)) (cc)
 
 get-quat-y-requires : tie.Need-get-quat-y-requires
@@ -22,7 +23,7 @@ quat-part-requires-2 : tie.Need-quat-part-requires-2
 quat-part-requires-2 c κs = search needs
 
 returns-2 : tie.Need-returns-2
-unfolding getQuat
+unfolding getQuatPart
 returns-2 c = rw (ne-eqb _ 0 (c .before .before .before .if1 .left), eq-eqb _ 1 (c .before .before .if2 .taken)) (cc)
 
 get-quat-z-requires : tie.Need-get-quat-z-requires
@@ -32,8 +33,12 @@ quat-part-requires-3 : tie.Need-quat-part-requires-3
 quat-part-requires-3 c κs = search needs
 
 returns-3 : tie.Need-returns-3
-unfolding getQuat
-returns-3 c = rw (ne-eqb _ 0 (c .before .before .before .if1 .left), ne-eqb _ 1 (c .before .before .if2 .left)) (cc)
+unfolding getQuatPart
+returns-3 c = rw (ne-eqb _ 0 (c .before .before .before .before .if1 .left), ne-eqb _ 1 (c .before .before .before .if2 .left), eq-eqb _ 2 (c .before .before .if3 .taken)) (cc)
+
+returns-4 : tie.Need-returns-4
+unfolding getQuatPart
+returns-4 c = rw (ne-eqb _ 0 (c .before .before .if1 .left), ne-eqb _ 1 (c .before .if2 .left), ne-eqb _ 2 (c .if3 .left)) no-number
 
 pub relaxed-ik-get-quat-spec : {M : Type 1} → statement M
 relaxed-ik-get-quat-spec =
@@ -47,4 +52,5 @@ relaxed-ik-get-quat-spec =
     returns-2
     get-quat-z-requires
     quat-part-requires-3
-    returns-3)
+    returns-3
+    returns-4)

@@ -6,7 +6,7 @@ use lib.Ieee.{neg}
 use lib.ListN.{length}
 use borrow.Author.Tests.{eq-eqb, ne-eqb}
 use Rattle.geometry.specs.Matrix.{determinantOf, stepsOf, signedOf}
-use Rattle.geometry.proofs.Steps.{pivot-below, count-most, steps-zero, steps-turn, steps-done, length-swap, length-lose}
+use Rattle.geometry.proofs.Steps.{pivot-below, count-most, steps-zero, steps-turn, steps-done, length-swap, length-eliminate}
 use Rattle.geometry.proofs.matrix.determinant.Statement.{statement}
 use Rattle.geometry.proofs.matrix.determinant.Tie as tie
 
@@ -59,8 +59,8 @@ add-swaps c =
     let l = w .before .before .before in
     omega (arith, c .exchange .ensures .0, count-most (l .loop .k) (w .pivot-row .result))
 
-lose-below-requires : tie.Need-lose-below-requires Inv-loop μ-loop
-lose-below-requires c κs =
+eliminate-below-requires : tie.Need-eliminate-below-requires Inv-loop μ-loop
+eliminate-below-requires c κs =
     let x = c .before in
     let w = x .before .before .before in
     let l = w .before .before .before in
@@ -78,7 +78,7 @@ loop-again c =
     let w = x .before .before .before in
     let l = w .before .before .before in
     let h = w .before .before .loop-test .taken in
-    (omega arith, omega (arith, x .exchange .ensures .0, count-most (l .loop .k) (w .pivot-row .result)), ap length (c .lose-below .ensures) ∙ length-lose _ (l .loop .k), steps-turn (l .loop .a) (l .loop .swaps) (l .loop .k) (w .pivot-row .result) _ (w .pivot-row .ensures) (l .loop .inv .3) (x .exchange .result) _ _ h (x .before .before .if1 .left) (x .exchange .ensures .0) (x .exchange .ensures .1) (c .lose-below .ensures))
+    (omega arith, omega (arith, x .exchange .ensures .0, count-most (l .loop .k) (w .pivot-row .result)), ap length (c .eliminate-below .ensures) ∙ length-eliminate _ (l .loop .k), steps-turn (l .loop .a) (l .loop .swaps) (l .loop .k) (w .pivot-row .result) _ (w .pivot-row .ensures) (l .loop .inv .3) (x .exchange .result) _ _ h (x .before .before .if1 .left) (x .exchange .ensures .0) (x .exchange .ensures .1) (c .eliminate-below .ensures))
 
 diagonal-requires : tie.Need-diagonal-requires Inv-loop μ-loop
 diagonal-requires c κs = tt
@@ -114,7 +114,7 @@ determinant-spec =
     returns
     exchange-requires
     add-swaps
-    lose-below-requires
+    eliminate-below-requires
     add-k
     loop-less
     loop-again

@@ -1,14 +1,14 @@
--- `lose_row` meets its contract. In the columns before `c` row `i` has lost.
+-- `eliminate_row` meets its contract. In the columns before `c` row `i` has lost.
 use mathlib.Core.Path.{_≡_, refl}
 use Prim.Native.Nat.{_-_, _≤_}
 use native.Mathlib.Omega.{arith}
 use lib.ListN.{length}
 use denote.Ref.{now}
-use Rattle.geometry.specs.Matrix.{entry, loseRowOf}
+use Rattle.geometry.specs.Matrix.{entry, eliminateRowOf}
 use Rattle.geometry.proofs.Tables.{columns-none, columns-all, columnsOf}
 use Rattle.geometry.proofs.Steps.{lost, lose-turn}
-use Rattle.geometry.proofs.matrix.lose_row.Statement.{statement}
-use Rattle.geometry.proofs.matrix.lose_row.Tie as tie
+use Rattle.geometry.proofs.matrix.eliminate_row.Statement.{statement}
+use Rattle.geometry.proofs.matrix.eliminate_row.Tie as tie
 
 abbrev Inv-loop : tie.InvT-loop
 Inv-loop m₀ k i f c₀ m c = (c ≤ 6) × (m ≡ columnsOf c (lost m₀ k i) (entry m₀))
@@ -96,14 +96,14 @@ loop-again c =
     (omega arith, lose-turn (now (a .m)) (l .loop .m) (a .k) (a .i) (l .loop .c) (omega arith) (omega arith) (omega arith) (l .loop .inv .1))
 
 returns : tie.Need-returns Inv-loop μ-loop
-unfolding loseRowOf
+unfolding eliminateRowOf
 returns c =
     let l = c .before in
     let a = l .before .before .before .args in
     columns-all (lost (now (a .m)) (a .k) (a .i)) (entry (now (a .m))) (l .loop .m) (l .loop .c) (omega arith) (l .loop .inv .1)
 
-pub lose-row-spec : {M : Type 1} → statement M
-lose-row-spec =
+pub eliminate-row-spec : {M : Type 1} → statement M
+eliminate-row-spec =
     tie.close
     (tie.spec
     Inv-loop

@@ -1,4 +1,4 @@
--- `lose_below` meets its contract. The rows from `k + 1` to before `i` have lost.
+-- `eliminate_below` meets its contract. The rows from `k + 1` to before `i` have lost.
 use mathlib.Core.Path.{_≡_, ap, _∙_}
 use mathlib.Core.List.{List}
 use Prim.Native.Nat.{_-_, _≤_, _<_}
@@ -6,10 +6,10 @@ use native.Mathlib.Omega.{arith}
 use lib.ListN.{length}
 use lib.Ieee.{Float}
 use denote.Ref.{now}
-use Rattle.geometry.specs.Matrix.{loseRowOf}
+use Rattle.geometry.specs.Matrix.{eliminateRowOf}
 use Rattle.geometry.proofs.Steps.{rowsOf, rows-none, rows-all, rows-turn, length-rows}
-use Rattle.geometry.proofs.matrix.lose_below.Statement.{statement}
-use Rattle.geometry.proofs.matrix.lose_below.Tie as tie
+use Rattle.geometry.proofs.matrix.eliminate_below.Statement.{statement}
+use Rattle.geometry.proofs.matrix.eliminate_below.Tie as tie
 
 abbrev Inv-loop : tie.InvT-loop
 Inv-loop m₀ k i₀ m i = (k < i) × (i ≤ 6) × (m ≡ rowsOf m₀ k i)
@@ -23,8 +23,8 @@ add-i c = omega arith
 loop-holds : tie.Need-loop-holds Inv-loop μ-loop
 loop-holds c = (omega arith, omega arith, rows-none (now (c .args .m)) (c .args .k) (c .pre .1))
 
-lose-row-requires : tie.Need-lose-row-requires Inv-loop μ-loop
-lose-row-requires c κs =
+eliminate-row-requires : tie.Need-eliminate-row-requires Inv-loop μ-loop
+eliminate-row-requires c κs =
     let l = c .before .before in
     let a = l .before .args in
     (omega arith, omega arith, ap length (l .loop .inv .2) ∙ length-rows (now (a .m)) (a .k) (l .loop .i))
@@ -39,7 +39,7 @@ loop-again : tie.Need-loop-again Inv-loop μ-loop
 loop-again c =
     let l = c .before .before .before in
     let a = l .before .args in
-    (omega arith, omega arith, c .lose-row .ensures ∙ ap (λ (z : List Float). loseRowOf z (a .k) (l .loop .i)) (l .loop .inv .2) ∙ rows-turn (now (a .m)) (a .k) (l .loop .i) (omega arith) (omega arith))
+    (omega arith, omega arith, c .eliminate-row .ensures ∙ ap (λ (z : List Float). eliminateRowOf z (a .k) (l .loop .i)) (l .loop .inv .2) ∙ rows-turn (now (a .m)) (a .k) (l .loop .i) (omega arith) (omega arith))
 
 returns : tie.Need-returns Inv-loop μ-loop
 returns c =
@@ -47,15 +47,15 @@ returns c =
     let a = l .before .args in
     l .loop .inv .2 ∙ rows-all (now (a .m)) (a .k) (l .loop .i) (omega arith)
 
-pub lose-below-spec : {M : Type 1} → statement M
-lose-below-spec =
+pub eliminate-below-spec : {M : Type 1} → statement M
+eliminate-below-spec =
     tie.close
     (tie.spec
     Inv-loop
     μ-loop
     add-i
     loop-holds
-    lose-row-requires
+    eliminate-row-requires
     add-i-2
     loop-less
     loop-again
