@@ -1,14 +1,14 @@
 -- What a counting loop writes, one piece a turn: f from, f (from + 1), ..
 use mathlib.Core.Path.{_≡_, refl, sym, ap, _∙_}
-use mathlib.Core.List.{List, [], _∷_, _++_, append-assoc, append-nil}
+use mathlib.Core.List.{List, [], _++_}
 use mathlib.Core.Logic.{⊎-elim}
 use Prim.Native.Nat.{ℕ, zero, suc, _+_, _-_, _*_, _≤_, _<_}
-use native.Mathlib.Nat.{add-zero, add-assoc, suc-mul, mul-le-mul-right, eq-or-lt-of-le}
+use native.Mathlib.Nat.{zero-add, suc-mul, mul-le-mul-right, eq-or-lt-of-le}
 use native.Mathlib.Numerals.{add-one}
 use native.Mathlib.Omega.{arith}
 use lib.ListN.{length, getD, length-append, List·getD-append}
 use lib.Seq.{getD-append-add}
-use Rattle.lists.specs.Splice.{splice, splice-nil, splice-splice, length-splice}
+use Rattle.lists.specs.Splice.{splice, splice-nil, splice-splice}
 
 module _ {A : Type 0} where
   unfoldable pub runs : (ℕ → List A) → ℕ → ℕ → List A
@@ -32,6 +32,21 @@ module _ {A : Type 0} where
       let e′ : f (from + n) ≡ g (from + n) = h n (omega arith) in
       cc
 
+  -- where a counting loop begins
+  pub splice-none : (f : ℕ → List A) (xs : List A) (at from : ℕ) → xs ≡ splice xs at (runs f from 0)
+  splice-none f xs at from = sym (ap (splice xs at) (runs-none f from) ∙ splice-nil xs at)
+
+  -- A counting loop's turn. cur is xs with the pieces of the turns so far from at on; the turn writes the next piece behind them.
+  pub splice-more : (f : ℕ → List A) (xs cur new : List A) (at k from n : ℕ)
+      → cur ≡ splice xs at (runs f from n)
+      → k ≡ at + length (runs f from n)
+      → at + length (runs f from n) ≤ length xs
+      → new ≡ splice cur k (f (from + n))
+      → new ≡ splice xs at (runs f from (n + 1))
+  splice-more f xs cur new at k from n ecur ek fits enew =
+      enew ∙ ap (λ (l : List A). splice l k (f (from + n))) ecur ∙ splice-splice xs at k (runs f from n) (f (from + n)) ek fits
+      ∙ ap (splice xs at) (sym (runs-more f from n))
+
   -- pieces of one length
   module _ (f : ℕ → List A) (w : ℕ) (each : (i : ℕ) → length (f i) ≡ w) where
     pub length-runs : (from n : ℕ) → length (runs f from n) ≡ n * w
@@ -54,7 +69,7 @@ module _ {A : Type 0} where
         List·getD-append (runs f from n) (f (from + n)) d (i * w + r) (omega (arith, suc-mul i w)) ∙ getD-runs from n i r d b l)
         (eq-or-lt-of-le (omega arith))
 
-    -- A counting loop's turn. cur is xs with the pieces of the turns so far from at on; the turn writes the piece of `link` behind them.
+    -- a turn of a loop that counts links up from `from`
     pub splice-turn : (xs cur new : List A) (at k from link : ℕ) → from ≤ link
         → cur ≡ splice xs at (runs f from (link - from))
         → k ≡ at + (link - from) * w
@@ -63,14 +78,11 @@ module _ {A : Type 0} where
         → new ≡ splice xs at (runs f from (link + 1 - from))
     splice-turn xs cur new at k from link le ecur ek fits enew =
         let n : ℕ = link - from in
-        let en : link + 1 - from ≡ n + 1 = omega arith in
-        let el : from + n ≡ link = omega arith in
+        let en : n + 1 ≡ link + 1 - from = omega arith in
+        let el : link ≡ from + n = omega arith in
         let len : length (runs f from n) ≡ n * w = length-runs from n in
-        let ek′ : k ≡ at + length (runs f from n) = omega arith in
-        let fits′ : at + length (runs f from n) ≤ length xs = omega arith in
-        enew ∙ ap (λ (l : List A). splice l k (f link)) ecur ∙ splice-splice xs at k (runs f from n) (f link) ek′ fits′
-        ∙ ap (λ (l : List A). splice xs at (runs f from n ++ l)) (ap f (sym el))
-        ∙ ap (splice xs at) (sym (runs-more f from n)) ∙ ap (λ (z : ℕ). splice xs at (runs f from z)) (sym en)
+        splice-more f xs cur new at k from n ecur (omega arith) (omega arith) (enew ∙ ap (λ (l : ℕ). splice cur k (f l)) el)
+        ∙ ap (λ (m : ℕ). splice xs at (runs f from m)) en
 
     -- and where it begins
     pub splice-start : (xs : List A) (at from : ℕ) → xs ≡ splice xs at (runs f from (from - from))
@@ -87,11 +99,7 @@ module _ {A : Type 0} (f : ℕ → List A) where
       → new ≡ splice cur k (f link)
       → new ≡ splice xs at (runs f 0 (link + 1))
   splice-turn-at xs cur new at k link ecur ek fits enew =
-      let z : List A = runs f 0 link in
-      let ez : 0 + link ≡ link = omega arith in
-      enew ∙ ap (λ (l : List A). splice l k (f link)) ecur ∙ splice-splice xs at k z (f link) ek fits
-      ∙ ap (λ (l : List A). splice xs at (z ++ l)) (ap f (sym ez))
-      ∙ ap (splice xs at) (sym (runs-more f 0 link))
+      splice-more f xs cur new at k 0 link ecur ek fits (enew ∙ ap (λ (l : ℕ). splice cur k (f l)) (sym (zero-add link)))
 
   pub splice-start-at : (xs : List A) (at : ℕ) → xs ≡ splice xs at (runs f 0 0)
-  splice-start-at xs at = sym (ap (splice xs at) (runs-none f 0) ∙ splice-nil xs at)
+  splice-start-at xs at = splice-none f xs at 0

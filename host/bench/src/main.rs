@@ -4,6 +4,8 @@
 
 #![forbid(unsafe_code)]
 
+#[cfg(feature = "arms")]
+mod arms;
 mod digits;
 
 use nalgebra::{DMatrix, Point3, Quaternion, UnitQuaternion, Vector3};
@@ -165,4 +167,7 @@ fn main() {
         |(bytes, _)| proved::determinant(bytes),
         |(_, matrix)| matrix.determinant(),
     );
+
+    #[cfg(feature = "arms")]
+    arms::rows(&mut draw);
 }

@@ -3,11 +3,15 @@
 
 #![forbid(unsafe_code)]
 
+#[cfg(feature = "arms")]
+mod arms;
 mod draw;
 mod geometry;
 mod matrices;
 mod numbers;
 mod run;
+#[cfg(feature = "arms")]
+mod sheets;
 
 use run::{Kind, Run};
 use std::process::ExitCode;
@@ -60,6 +64,8 @@ fn kinds() -> Vec<Kind> {
     let mut all = numbers::kinds();
     all.extend(geometry::kinds());
     all.extend(matrices::kinds());
+    #[cfg(feature = "arms")]
+    all.extend(arms::kinds());
     all
 }
 
@@ -108,6 +114,11 @@ fn main() -> ExitCode {
             "{:<18} {:>10} cases {:>8} differences {:>8.2} s",
             kind.name, outcome.cases, outcome.differences, outcome.seconds
         );
+        if !outcome.answers.is_empty() {
+            let counts = outcome.answers.iter();
+            let counts: Vec<String> = counts.map(|(n, count)| format!("{n}: {count}")).collect();
+            println!("  answers {}", counts.join(", "));
+        }
         for difference in &outcome.shown {
             println!("{difference}");
         }

@@ -1,6 +1,7 @@
 //! One kind's run: counts cases, keeps the differences, tells how far it is.
 
 use crate::draw::Draw;
+use std::collections::BTreeMap;
 use std::fmt::Write as _;
 use std::io::{IsTerminal, Write as _};
 use std::time::{Duration, Instant};
@@ -25,6 +26,7 @@ pub struct Run {
     cases: u64,
     differences: u64,
     shown: Vec<String>,
+    answers: BTreeMap<u32, u64>,
     started: Instant,
     /// The clock is read again at this case.
     look: u64,
@@ -37,6 +39,8 @@ pub struct Outcome {
     pub cases: u64,
     pub differences: u64,
     pub shown: Vec<String>,
+    /// How often each number was answered, for calls that answer one.
+    pub answers: BTreeMap<u32, u64>,
     pub seconds: f64,
 }
 
@@ -51,6 +55,7 @@ impl Run {
             cases: 0,
             differences: 0,
             shown: Vec::new(),
+            answers: BTreeMap::new(),
             started: now,
             look: 64,
             spoke: now,
@@ -82,6 +87,12 @@ impl Run {
         if self.cases >= self.look {
             self.tell();
         }
+    }
+
+    /// Counts the number that a call is to answer: 0, or a refusal's.
+    #[cfg(feature = "arms")]
+    pub fn answer(&mut self, number: u32) {
+        *self.answers.entry(number).or_default() += 1;
     }
 
     /// One case of a function from floats to floats.
@@ -147,6 +158,7 @@ impl Run {
             cases: self.cases,
             differences: self.differences,
             shown: self.shown,
+            answers: self.answers,
             seconds: self.started.elapsed().as_secs_f64(),
         }
     }

@@ -1,10 +1,13 @@
 //! The proved static library from Rust: the C declarations and a safe function
-//! for each. All of the host's unsafe code is in this file. Nothing checks the
+//! for each. All of the host's unsafe code is in this crate. Nothing checks the
 //! declarations against the library's source, so they are to be read beside
 //! it.
 //!
 //! Quaternions are w, i, j, k; vectors x, y, z. A function of several parts is
 //! asked for one part a call.
+
+#[cfg(feature = "arms")]
+pub mod arms;
 
 mod c {
     extern "C" {
@@ -185,6 +188,14 @@ pub fn determinant(bytes: &[u8]) -> f64 {
 /// and past row or column 5.
 pub fn gram(bytes: &[u8], row: u32, column: u32) -> f64 {
     unsafe { c::relaxed_ik_gram(bytes.as_ptr(), bytes.len(), row, column) }
+}
+
+/// The u16s as the library reads them, in place of what `bytes` held.
+pub fn put_u16s(numbers: &[u16], bytes: &mut Vec<u8>) {
+    bytes.clear();
+    for n in numbers {
+        bytes.extend_from_slice(&n.to_le_bytes());
+    }
 }
 
 /// The floats as the library reads them, in place of what `bytes` held.

@@ -1,7 +1,8 @@
 //! The published files of relaxed_ik_core (commit 1c48d2ae40, MIT, see
 //! LICENSE), run on document 01's stand-ins. README.md lists every place where
-//! a file differs from the published one. `sheet` is ours: it makes the
-//! published structures from plain numbers.
+//! a file differs from the published one. `sheet` and `refusals` are ours: one
+//! makes the published structures from plain numbers, the other says which
+//! numbers document 01 refuses.
 
 #![forbid(unsafe_code)]
 // The published files are left as they are written.
@@ -26,5 +27,7 @@ pub mod utils_rust {
     pub mod transformations;
 }
 
+#[warn(dead_code, non_snake_case, unused, clippy::all)]
+pub mod refusals;
 #[warn(dead_code, non_snake_case, unused, clippy::all)]
 pub mod sheet;

@@ -1,7 +1,9 @@
 //! Ours, no part of the published files: makes a `Robot` and `RelaxedIKVars`
 //! from plain numbers laid out as document 01's section 'Arm sheet and lists'
-//! says. It takes the place of loading from URDF and settings. Nothing is
-//! refused here: a sheet that the paper would refuse may panic.
+//! says, and lays what the published functions answer out as lists. It takes
+//! the place of loading from URDF and settings. Nothing is refused here: a
+//! sheet that the paper would refuse may panic. `refusals` is to be asked
+//! first.
 
 use crate::groove::vars::RelaxedIKVars;
 use crate::spacetime::arm::Arm;
@@ -12,6 +14,8 @@ use nalgebra::{Quaternion, UnitQuaternion, Vector3, Vector6};
 pub const LINK_FLOATS: usize = 7;
 /// Floats a chain's goal: position, quaternion w first, six tolerances.
 pub const GOAL_FLOATS: usize = 13;
+/// Floats a chain's end pose: position, rotation w first.
+pub const END_FLOATS: usize = 7;
 
 /// The names by which `Arm::init` knows a joint's kind, by the code's tens.
 const KINDS: [&str; 4] = ["fixed", "revolute", "continuous", "prismatic"];
@@ -65,9 +69,9 @@ pub fn robot(sizes: &[u16], codes: &[u16], floats: &[f64], limits: &[f64]) -> Ro
     }
 }
 
-/// The state right after a reset to `start`, with the goals given.
-pub fn vars(robot: Robot, goals: &[f64], start: &[f64]) -> RelaxedIKVars {
-    let mut vars = RelaxedIKVars {
+/// The state right after loading: no goals, no history.
+pub fn loaded(robot: Robot) -> RelaxedIKVars {
+    RelaxedIKVars {
         robot,
         init_state: Vec::new(),
         xopt: Vec::new(),
@@ -79,7 +83,12 @@ pub fn vars(robot: Robot, goals: &[f64], start: &[f64]) -> RelaxedIKVars {
         tolerances: Vec::new(),
         init_ee_positions: Vec::new(),
         init_ee_quats: Vec::new(),
-    };
+    }
+}
+
+/// The state right after a reset to `start`, with the goals given.
+pub fn vars(robot: Robot, goals: &[f64], start: &[f64]) -> RelaxedIKVars {
+    let mut vars = loaded(robot);
     set_goals(&mut vars, goals);
     vars.reset(start.to_vec());
     vars
@@ -97,4 +106,55 @@ pub fn set_goals(vars: &mut RelaxedIKVars, goals: &[f64]) {
         vars.tolerances
             .push(Vector6::new(t[0], t[1], t[2], t[3], t[4], t[5]));
     }
+}
+
+/// Four blocks of joints: current, then the three earlier ones.
+pub fn history(vars: &RelaxedIKVars) -> Vec<f64> {
+    [
+        &vars.xopt[..],
+        &vars.prev_state,
+        &vars.prev_state2,
+        &vars.prev_state3,
+    ]
+    .concat()
+}
+
+pub fn set_history(vars: &mut RelaxedIKVars, history: &[f64]) {
+    let joints = vars.robot.num_dofs;
+    let block = |at: usize| history[at * joints..][..joints].to_vec();
+    vars.xopt = block(0);
+    vars.prev_state = block(1);
+    vars.prev_state2 = block(2);
+    vars.prev_state3 = block(3);
+}
+
+/// Positions by three and rotations by four, chain after chain.
+pub fn frames(robot: &Robot, joints: &[f64]) -> (Vec<f64>, Vec<f64>) {
+    let (mut positions, mut rotations) = (Vec::new(), Vec::new());
+    for (points, turns) in robot.get_frames_immutable(joints) {
+        points
+            .iter()
+            .for_each(|p| positions.extend([p.x, p.y, p.z]));
+        turns
+            .iter()
+            .for_each(|q| rotations.extend([q.w, q.i, q.j, q.k]));
+    }
+    (positions, rotations)
+}
+
+fn end(position: &Vector3<f64>, rotation: &UnitQuaternion<f64>) -> [f64; END_FLOATS] {
+    let (p, q) = (position, rotation);
+    [p.x, p.y, p.z, q.w, q.i, q.j, q.k]
+}
+
+/// Each chain's end pose at these joints.
+pub fn ends(robot: &Robot, joints: &[f64]) -> Vec<f64> {
+    let poses = robot.get_ee_pos_and_quat_immutable(joints);
+    poses.iter().flat_map(|(p, q)| end(p, q)).collect()
+}
+
+/// The end poses that a reset keeps.
+pub fn start_ends(vars: &RelaxedIKVars) -> Vec<f64> {
+    let poses = vars.init_ee_positions.iter().zip(&vars.init_ee_quats);
+    poses.flat_map(|(p, q)| end(p, q)).collect()
 }

@@ -1,0 +1,111 @@
+-- `frames` meets its contract: a refusal writes nothing; else the lists are made of the walk's poses. Assumes nothing.
+use mathlib.Core.Path.{_≡_, refl, sym, ap, _∙_}
+use mathlib.Core.List.{List}
+use Prim.Native.Nat.{ℕ, _+_, _*_, _≤_, _<_}
+use native.Mathlib.Omega.{arith}
+use denote.Ref.{now}
+use lib.Ieee.{Float}
+use lib.ListN.{length}
+use Rattle.lists.specs.Splice.{splice}
+use Rattle.sheet.specs.Chain.{total, joints}
+use Rattle.spacetime.specs.Walk.{poseOf, listPose, frames-pose}
+use Rattle.spacetime.specs.Frames.{positions-ext, rotations-ext}
+use Rattle.refusals.specs.Refusal.{blockRefusal}
+use Rattle.calls.specs.Arms.{sheet-of, taken, refused}
+use Rattle.calls.specs.Frames.{framesRefusal, frames-passed}
+use borrow.Author.Needs.{needs}
+use Rattle.calls.proofs.frames.frames.Statement.{statement}
+use Rattle.calls.proofs.frames.frames.Tie as tie
+
+abbrev S : tie.Else1 → tie.Start
+S c = c .before .before .before .before .before .before .before .before
+
+number : (c : tie.Else1) → framesRefusal (now (S c .args .sizes)) (now (S c .args .codes)) (now (S c .args .block)) (length (now (S c .args .positions))) (length (now (S c .args .rotations))) ≡ 0
+number c = sym (c .before .frames-refusal .ensures) ∙ c .if1 .left
+
+passed : (c : tie.Else1) → (blockRefusal (joints (now (S c .args .codes))) (now (S c .args .block)) ≡ 0)
+    × (3 * (length (now (S c .args .codes)) + length (now (S c .args .sizes))) ≤ length (now (S c .args .positions)))
+    × (4 * (length (now (S c .args .codes)) + 2 * length (now (S c .args .sizes))) ≤ length (now (S c .args .rotations)))
+passed c = frames-passed _ _ _ _ _ (number c)
+
+-- the list of poses has its length, and holds the walk's poses
+held : (c : tie.After-get-frames-immutable) → length (c .get-frames-immutable .last .1 .1 .1 .1 .0) ≡ 448
+held c = c .get-frames-immutable .kept .1 .1 .1 .1 .0
+
+walked : (c : tie.After-get-frames-immutable) → (l : ℕ) → l < total (now (S (c .before .before) .args .sizes))
+    → listPose (c .get-frames-immutable .last .1 .1 .1 .1 .0) l
+    ≡ poseOf (now (S (c .before .before) .args .sizes)) (now (S (c .before .before) .args .codes)) (now (S (c .before .before) .args .geo)) (now (S (c .before .before) .args .block)) l
+walked c l h =
+    let s = S (c .before .before) in
+    ap (λ (r : List Float). listPose r l) (c .get-frames-immutable .ensures)
+    ∙ frames-pose (now (s .args .sizes)) (now (s .args .codes)) (now (s .args .geo)) (now (s .args .block)) _ l (omega (arith, s .pre)) (omega (arith, s .pre))
+
+frames-refusal-requires : tie.Need-frames-refusal-requires
+frames-refusal-requires c κs = search needs
+
+returns : tie.Need-returns
+returns c =
+    let w = c .before in
+    (w .frames-refusal .ensures, (sym (refused (w .frames-refusal .result) _ _ (c .if1 .taken)), sym (refused (w .frames-refusal .result) _ _ (c .if1 .taken))))
+
+slice-aggregate-get-frames-immutable : tie.Need-slice-aggregate-get-frames-immutable
+slice-aggregate-get-frames-immutable c = search needs
+
+get-frames-immutable-requires : tie.Need-get-frames-immutable-requires
+get-frames-immutable-requires c κs =
+    let s = S (c .before) in
+    (sheet-of _ _ _ _ (s .pre) (passed (c .before) .0), omega (arith, s .pre))
+
+slice-aggregate-put-positions : tie.Need-slice-aggregate-put-positions
+slice-aggregate-put-positions c = search needs
+
+put-positions-requires : tie.Need-put-positions-requires
+put-positions-requires c κs =
+    let e = c .before .before .before .before .before in
+    let s = S e in
+    (s .pre .chains, (omega (arith, s .pre, held (c .before .before .before)), omega (arith, s .pre, passed e .1)))
+
+slice-aggregate-put-rotations : tie.Need-slice-aggregate-put-rotations
+slice-aggregate-put-rotations c = search needs
+
+put-rotations-requires : tie.Need-put-rotations-requires
+put-rotations-requires c κs =
+    let e = c .before .before .before .before .before .before .before .before .before .before in
+    let s = S e in
+    (s .pre .chains, (omega (arith, s .pre, held (c .before .before .before .before .before .before .before .before)), omega (arith, s .pre, passed e .2)))
+
+same-length : tie.Need-same-length
+same-length c = search needs
+
+same-length-2 : tie.Need-same-length-2
+same-length-2 c = search needs
+
+returns-2 : tie.Need-returns-2
+returns-2 c =
+    let g = c .before .before .before .before .before .before .before .before .before .before .before in
+    let e = g .before .before in
+    let s = S e in
+    let a = s .args in
+    let ns = now (a .sizes) in (
+      sym (number e),
+      (
+        c .before .before .before .before .before .before .before .put-positions .ensures ∙ ap (splice (now (a .positions)) 0) (positions-ext ns _ _ (walked g)) ∙ sym (taken 0 _ _ refl),
+        c .before .before .put-rotations .ensures ∙ ap (splice (now (a .rotations)) 0) (rotations-ext ns _ _ (walked g) (s .pre .chains)) ∙ sym (taken 0 _ _ refl),
+      ),
+    )
+
+pub frames-spec : {M : Type 1} → statement M
+frames-spec =
+    tie.close
+    (tie.spec
+    frames-refusal-requires
+    returns
+    slice-aggregate-get-frames-immutable
+    get-frames-immutable-requires
+    slice-aggregate-put-positions
+    put-positions-requires
+    slice-aggregate-put-rotations
+    put-rotations-requires
+    same-length
+    same-length-2
+    returns-2)

@@ -1,0 +1,86 @@
+-- `pose` meets its contract: a refusal writes nothing; else the list is made of the walk's poses. Assumes nothing.
+use mathlib.Core.Path.{_≡_, refl, sym, ap, _∙_}
+use mathlib.Core.List.{List}
+use Prim.Native.Nat.{ℕ, _*_, _≤_, _<_}
+use native.Mathlib.Omega.{arith}
+use denote.Ref.{now}
+use lib.Ieee.{Float}
+use lib.ListN.{length}
+use Rattle.lists.specs.Splice.{splice}
+use Rattle.sheet.specs.Chain.{total, joints}
+use Rattle.spacetime.specs.Walk.{poseOf, listPose, frames-pose}
+use Rattle.spacetime.specs.Frames.{ends-ext}
+use Rattle.refusals.specs.Refusal.{blockRefusal}
+use Rattle.calls.specs.Arms.{sheet-of, taken, refused}
+use Rattle.calls.specs.Frames.{poseRefusal, pose-passed}
+use borrow.Author.Needs.{needs}
+use Rattle.calls.proofs.frames.pose.Statement.{statement}
+use Rattle.calls.proofs.frames.pose.Tie as tie
+
+abbrev S : tie.Else1 → tie.Start
+S c = c .before .before .before .before .before .before .before
+
+number : (c : tie.Else1) → poseRefusal (now (S c .args .sizes)) (now (S c .args .codes)) (now (S c .args .block)) (length (now (S c .args .ends))) ≡ 0
+number c = sym (c .before .pose-refusal .ensures) ∙ c .if1 .left
+
+passed : (c : tie.Else1) → (blockRefusal (joints (now (S c .args .codes))) (now (S c .args .block)) ≡ 0) × (7 * length (now (S c .args .sizes)) ≤ length (now (S c .args .ends)))
+passed c = pose-passed _ _ _ _ (number c)
+
+-- the list of poses has its length, and holds the walk's poses
+held : (c : tie.After-get-frames-immutable) → length (c .get-frames-immutable .last .1 .1 .1 .1 .0) ≡ 448
+held c = c .get-frames-immutable .kept .1 .1 .1 .1 .0
+
+walked : (c : tie.After-get-frames-immutable) → (l : ℕ) → l < total (now (S (c .before .before) .args .sizes))
+    → listPose (c .get-frames-immutable .last .1 .1 .1 .1 .0) l
+    ≡ poseOf (now (S (c .before .before) .args .sizes)) (now (S (c .before .before) .args .codes)) (now (S (c .before .before) .args .geo)) (now (S (c .before .before) .args .block)) l
+walked c l h =
+    let s = S (c .before .before) in
+    ap (λ (r : List Float). listPose r l) (c .get-frames-immutable .ensures)
+    ∙ frames-pose (now (s .args .sizes)) (now (s .args .codes)) (now (s .args .geo)) (now (s .args .block)) _ l (omega (arith, s .pre)) (omega (arith, s .pre))
+
+pose-refusal-requires : tie.Need-pose-refusal-requires
+pose-refusal-requires c κs = search needs
+
+returns : tie.Need-returns
+returns c = (c .before .pose-refusal .ensures, sym (refused (c .before .pose-refusal .result) _ _ (c .if1 .taken)))
+
+slice-aggregate-get-frames-immutable : tie.Need-slice-aggregate-get-frames-immutable
+slice-aggregate-get-frames-immutable c = search needs
+
+get-frames-immutable-requires : tie.Need-get-frames-immutable-requires
+get-frames-immutable-requires c κs =
+    let s = S (c .before) in
+    (sheet-of _ _ _ _ (s .pre) (passed (c .before) .0), omega (arith, s .pre))
+
+slice-aggregate-put-ends : tie.Need-slice-aggregate-put-ends
+slice-aggregate-put-ends c = search needs
+
+put-ends-requires : tie.Need-put-ends-requires
+put-ends-requires c κs =
+    let e = c .before .before .before .before .before in
+    let s = S e in
+    (s .pre .chains, (omega (arith, s .pre, held (c .before .before .before)), omega (arith, s .pre, passed e .1)))
+
+same-length : tie.Need-same-length
+same-length c = search needs
+
+returns-2 : tie.Need-returns-2
+returns-2 c =
+    let g = c .before .before .before .before .before .before in
+    let s = S (g .before .before) in (
+      sym (number (g .before .before)),
+      c .before .before .put-ends .ensures ∙ ap (splice (now (s .args .ends)) 0) (ends-ext (now (s .args .sizes)) _ _ (walked g) (s .pre .chains)) ∙ sym (taken 0 _ _ refl),
+    )
+
+pub pose-spec : {M : Type 1} → statement M
+pose-spec =
+    tie.close
+    (tie.spec
+    pose-refusal-requires
+    returns
+    slice-aggregate-get-frames-immutable
+    get-frames-immutable-requires
+    slice-aggregate-put-ends
+    put-ends-requires
+    same-length
+    returns-2)

@@ -1,0 +1,2 @@
+// The objective's side of the arm: its history.
+pub mod vars;

@@ -1,0 +1,4 @@
+pub mod Range
+pub mod Lowest
+pub mod Refusal
+pub mod Passed

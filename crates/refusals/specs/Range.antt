@@ -1,0 +1,70 @@
+-- Ranges, closed, and tests of every one of a run. A NaN is within no range.
+use mathlib.Core.Path.{_≡_, refl, sym, ap, _∙_}
+use mathlib.Core.Bool.{Bool, true, false, _&&_}
+use mathlib.Core.Logic.{⊎-elim}
+use mathlib.Core.List.{List}
+use Prim.Native.Nat.{ℕ, zero, suc, _+_, _<_}
+use native.Mathlib.Nat.{eq-or-lt-of-le}
+use native.Mathlib.Numerals.{add-one}
+use native.Mathlib.Omega.{arith}
+use lib.Dec.{leb}
+use lib.Ieee.{Float, binary64, ofBits, neg, le, nan}
+use lib.ListN.{getD}
+use Rattle.standins.specs.Num.{_⊕_, _⊗_}
+
+-- every number below n passes f
+unfoldable pub every : (ℕ → Bool) → ℕ → Bool
+every f zero = true
+every f (suc n) = every f n && f n
+
+-- n is within low..high
+unfoldable pub between : ℕ → ℕ → ℕ → Bool
+between low high n = leb low n && leb n high
+
+-- v is within -b..b
+unfoldable pub within : Float → Float → Bool
+within b v = le (neg b) v && le v b
+
+-- the float i places after at is within -b..b; past the list's end stands a NaN
+unfoldable pub withinAt : Float → List Float → ℕ → ℕ → Bool
+withinAt b xs at i = within b (getD xs (at + i) nan)
+
+-- the squares' sum, w first
+unfoldable pub squaresOf : Float → Float → Float → Float → Float
+squaresOf w i j k = w ⊗ w ⊕ i ⊗ i ⊕ j ⊗ j ⊕ k ⊗ k
+
+-- s is within 0.999999999..1.000000001
+unfoldable pub nearOne : Float → Bool
+nearOne s = le (ofBits binary64 0x3fef_ffff_ff76_8fa1) s && le s (ofBits binary64 0x3ff0_0000_0044_b830)
+
+-- the quaternion that starts at at, w first, has a squares' sum near 1
+unfoldable pub unitAt : List Float → ℕ → Bool
+unitAt xs at = nearOne (squaresOf (getD xs at nan) (getD xs (at + 1) nan) (getD xs (at + 2) nan) (getD xs (at + 3) nan))
+
+-- ---- laws
+pub and-true : (a b : Bool) → (a && b) ≡ true → (a ≡ true) × (b ≡ true)
+and-true true b e = (refl, e)
+and-true false b e = (e, absurd (let z : _≡_ {A = ℕ} 0 1 = cc in omega arith))
+
+module _ (f : ℕ → Bool) where
+  pub every-none : every f 0 ≡ true
+  unfolding every
+  every-none = refl
+
+  pub every-more : (n : ℕ) → every f (n + 1) ≡ (every f n && f n)
+  unfolding every
+  every-more n = rw add-one
+
+  -- a turn of a loop that carries the answer
+  pub every-turn : (n : ℕ) (ok t r : Bool) → ok ≡ every f n → t ≡ f n → r ≡ (ok && t) → r ≡ every f (n + 1)
+  every-turn n ok t r e q h = h ∙ ap (λ (b : Bool). b && t) e ∙ ap (λ (b : Bool). every f n && b) q ∙ sym (every-more n)
+
+  pub every-at : (n i : ℕ) → every f n ≡ true → i < n → f i ≡ true
+  unfolding every
+  every-at zero i e h = absurd (omega arith)
+  every-at (suc n) i e h =
+      let b = and-true (every f n) (f n) e in
+      ⊎-elim
+      (λ (q : suc i ≡ suc n). let s : i ≡ n = omega arith in rw s (b .1))
+      (λ (l : suc i < suc n). every-at n i (b .0) (omega arith))
+      (eq-or-lt-of-le h)

@@ -1,0 +1,147 @@
+-- The refusals from the input: a condition for each number, in the numbers' order, and the number of each call. 0 is accepted.
+use mathlib.Core.Bool.{Bool, true, false, cond, not, _&&_, _||_}
+use mathlib.Core.List.{List, [], _∷_, _++_}
+use Prim.Native.Nat.{ℕ, _+_, _-_, _*_}
+use lib.Dec.{eqb, leb, ltb}
+use lib.Ieee.{Float, binary64, ofBits, neg, eq, le, nan}
+use lib.ListN.{length, getD, drop}
+use Rattle.standins.specs.Num.{_⊖_}
+use Rattle.sheet.specs.declared.code.Kind.{Kind}
+use Rattle.sheet.specs.declared.code.Kind.the-variants.{Fixed, Turning, Sliding, Unlisted}
+use Rattle.sheet.specs.Code.{kindOf}
+use Rattle.sheet.specs.Chain.{total, chainStart, jointOf, joints}
+use Rattle.refusals.specs.Range.{every, between, within, withinAt, unitAt}
+use Rattle.refusals.specs.Lowest.{lowest}
+
+-- the sizes list: the chain count, then the links per chain
+abbrev pub chainsOf : List ℕ → ℕ
+chainsOf sizes = getD sizes 0 0
+
+abbrev pub linksOf : List ℕ → List ℕ
+linksOf sizes = drop 1 sizes
+
+-- chain c has 1..16 links
+unfoldable pub linksFit : List ℕ → ℕ → Bool
+linksFit ns c = between 1 16 (getD ns c 0)
+
+-- 1. Sizes list empty, its length not chains + 1, chains not 1..4, or links not 1..16.
+unfoldable pub badSizes : List ℕ → Bool
+badSizes sizes =
+    eqb (length sizes) 0
+    || not (eqb (length sizes) (chainsOf sizes + 1))
+    || not (between 1 4 (chainsOf sizes))
+    || not (every (linksFit (linksOf sizes)) (length (linksOf sizes)))
+
+-- 2. Codes not one, or floats not seven, a link. (ns are the links per chain; of the floats only their number counts)
+unfoldable pub badLengths : List ℕ → List ℕ → ℕ → Bool
+badLengths ns codes floats = not (eqb (length codes) (total ns)) || not (eqb floats (7 * total ns))
+
+-- every kind but the one for unlisted codes
+unfoldable pub listedKind : Kind → Bool
+listedKind Fixed = true
+listedKind (Turning a) = true
+listedKind (Sliding a) = true
+listedKind Unlisted = false
+
+-- code k is listed
+unfoldable pub listedCode : ℕ → Bool
+listedCode k = listedKind (kindOf k)
+
+-- link l's code is listed
+unfoldable pub listedAt : List ℕ → ℕ → Bool
+listedAt codes l = listedCode (getD codes l 0)
+
+-- 3. Unlisted code.
+unfoldable pub badCodes : List ℕ → Bool
+badCodes codes = not (every (listedAt codes) (length codes))
+
+-- the joints of chain c
+unfoldable pub chainJoints : List ℕ → List ℕ → ℕ → ℕ
+chainJoints ns codes c = jointOf codes (chainStart ns (c + 1)) - jointOf codes (chainStart ns c)
+
+-- chain c has at least 2 joints
+unfoldable pub twoJoints : List ℕ → List ℕ → ℕ → Bool
+twoJoints ns codes c = leb 2 (chainJoints ns codes c)
+
+-- chain c is chain 0, or has no more joints than chain 0 has links
+unfoldable pub laterFits : List ℕ → List ℕ → ℕ → Bool
+laterFits ns codes c = eqb c 0 || leb (chainJoints ns codes c) (getD ns 0 0)
+
+-- 4. A chain under 2 joints, more than 16 in all, or a later chain with more joints than chain 0 has links.
+unfoldable pub badJoints : List ℕ → List ℕ → Bool
+badJoints ns codes =
+    not (every (twoJoints ns codes) (length ns)) || ltb 16 (joints codes) || not (every (laterFits ns codes) (length ns))
+
+-- exactly -999, 999
+unfoldable pub freePair : Float → Float → Bool
+freePair lower upper = eq lower (neg (ofBits binary64 0x408f_3800_0000_0000)) && eq upper (ofBits binary64 0x408f_3800_0000_0000)
+
+-- 100
+abbrev pub hundred : Float
+hundred = ofBits binary64 0x4059_0000_0000_0000
+
+-- within -100..100 with upper - lower >= 0.001
+unfoldable pub rangedPair : Float → Float → Bool
+rangedPair lower upper = within hundred lower && within hundred upper && le (ofBits binary64 0x3f50_624d_d2f1_a9fc) (upper ⊖ lower)
+
+-- one or the other
+unfoldable pub pairFits : Float → Float → Bool
+pairFits lower upper = freePair lower upper || rangedPair lower upper
+
+-- joint j's pair fits: lower, then upper
+unfoldable pub limitsFit : List Float → ℕ → Bool
+limitsFit limits j = pairFits (getD limits (2 * j) nan) (getD limits (2 * j + 1) nan)
+
+-- 5. Limits not two a joint; or a pair neither exactly -999, 999 nor within -100..100 with upper - lower >= 0.001.
+unfoldable pub badLimits : ℕ → List Float → Bool
+badLimits joints limits = not (eqb (length limits) (2 * joints)) || not (every (limitsFit limits) joints)
+
+-- link l's seven floats fit: the displacement within -10..10, the offset's squares' sum near 1
+unfoldable pub linkFits : List Float → ℕ → Bool
+linkFits floats l = every (withinAt (ofBits binary64 0x4024_0000_0000_0000) floats (7 * l)) 3 && unitAt floats (7 * l + 3)
+
+-- 6. Displacement not within -10..10; offset whose squares' sum is outside 0.999999999..1.000000001.
+unfoldable pub badFloats : ℕ → List Float → Bool
+badFloats links floats = not (every (linkFits floats) links)
+
+-- 7. Joint block of wrong length, or a value not within -8..8.
+unfoldable pub badBlock : ℕ → List Float → Bool
+badBlock joints x = not (eqb (length x) joints) || not (every (withinAt (ofBits binary64 0x4020_0000_0000_0000) x 0) joints)
+
+-- chain c's 13 floats fit: the position within -100..100, the six tolerances after the quaternion too, the quaternion's squares' sum near 1
+unfoldable pub goalFits : List Float → ℕ → Bool
+goalFits goals c =
+    every (withinAt hundred goals (13 * c)) 3 && every (withinAt hundred goals (13 * c + 7)) 6 && unitAt goals (13 * c + 3)
+
+-- 8. Goals not 13 a chain; position or tolerance not within -100..100; quaternion as in 6.
+unfoldable pub badGoals : ℕ → List Float → Bool
+badGoals chains goals = not (eqb (length goals) (13 * chains)) || not (every (goalFits goals) chains)
+
+-- ---- the numbers
+-- of a sheet's lengths and codes: conditions 1 to 4
+abbrev pub shapeConditions : List ℕ → List ℕ → ℕ → List Bool
+shapeConditions sizes codes floats =
+    badSizes sizes ∷ badLengths (linksOf sizes) codes floats ∷ badCodes codes ∷ badJoints (linksOf sizes) codes ∷ []
+
+unfoldable pub shapeRefusal : List ℕ → List ℕ → ℕ → ℕ
+shapeRefusal sizes codes floats = lowest (shapeConditions sizes codes floats)
+
+-- of loading: conditions 1 to 6
+abbrev pub loadConditions : List ℕ → List ℕ → List Float → List Float → List Bool
+loadConditions sizes codes floats limits =
+    shapeConditions sizes codes (length floats) ++ (badLimits (joints codes) limits ∷ badFloats (length codes) floats ∷ [])
+
+unfoldable pub loadRefusal : List ℕ → List ℕ → List Float → List Float → ℕ
+loadRefusal sizes codes floats limits = lowest (loadConditions sizes codes floats limits)
+
+-- of a joint block
+unfoldable pub blockRefusal : ℕ → List Float → ℕ
+blockRefusal joints x = cond (badBlock joints x) 7 0
+
+-- of goals
+unfoldable pub goalsRefusal : ℕ → List Float → ℕ
+goalsRefusal chains goals = cond (badGoals chains goals) 8 0
+
+-- 9. Output, scratch or record list too short.
+unfoldable pub roomRefusal : ℕ → ℕ → ℕ
+roomRefusal needed have = cond (ltb have needed) 9 0

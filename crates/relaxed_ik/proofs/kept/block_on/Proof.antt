@@ -1,0 +1,60 @@
+-- `block_on` meets its contract: each return follows the test. Assumes nothing.
+use mathlib.Core.Path.{_≡_, sym, ap, _∙_}
+use Prim.Native.Nat.{ℕ}
+use native.Mathlib.Omega.{arith}
+use denote.Ref.{now}
+use lib.ListN.{length, take}
+use lib.Seq.{length-take-le}
+use Rattle.sheet.specs.Chain.{jointOf, joints, joint-last}
+use Rattle.refusals.specs.Refusal.{blockRefusal}
+use Rattle.relaxed_ik.specs.State.{codesUsed}
+use Rattle.relaxed_ik.specs.Kept.{blockNumber, arms-there, no-arms, used, unused, codes-part}
+use borrow.Author.Needs.{needs}
+use Rattle.relaxed_ik.proofs.kept.block_on.Statement.{statement}
+use Rattle.relaxed_ik.proofs.kept.block_on.Tie as tie
+
+-- the part of the codes that is lent is as long as it says
+part : (c : tie.Else1) → length (take (c .before .before .in-use .result .links) (now (c .before .before .before .before .before .before .args .codes))) ≡ c .before .before .in-use .result .links
+part c =
+    let s = c .before .before .before .before .before .before in
+    let u = used _ _ _ (c .before .before .in-use .ensures) (c .if1 .left) in
+    length-take-le (c .before .before .in-use .result .links) (now (s .args .codes)) (omega (arith, s .pre, u .most))
+
+in-use-requires : tie.Need-in-use-requires
+in-use-requires c κs = search needs
+
+returns : tie.Need-returns
+unfolding blockNumber
+returns c = sym (no-arms _ _ _ (unused _ _ _ (c .before .before .in-use .ensures) (c .if1 .taken)))
+
+slice-aggregate-joint-number : tie.Need-slice-aggregate-joint-number
+slice-aggregate-joint-number c = sym (part (c .before))
+
+joint-number-requires : tie.Need-joint-number-requires
+joint-number-requires c κs = omega (arith, part (c .before))
+
+block-refusal-requires : tie.Need-block-refusal-requires
+block-refusal-requires c κs = search needs
+
+returns-2 : tie.Need-returns-2
+unfolding blockNumber
+returns-2 c =
+    let e = c .before .before .before in
+    let s = e .before .before .before .before .before .before in
+    let u = used _ _ _ (e .before .before .in-use .ensures) (e .if1 .left) in
+    let n = e .before .before .in-use .result .links in
+    let j : c .before .joint-number .result ≡ joints (codesUsed (now (s .args .sizes)) (now (s .args .codes))) =
+    c .before .joint-number .ensures ∙ ap (jointOf (take n (now (s .args .codes)))) (sym (part e)) ∙ joint-last (take n (now (s .args .codes)))
+    ∙ ap joints (codes-part (now (s .args .sizes)) (now (s .args .codes)) (now (s .args .joints)) (e .before .before .in-use .result) u) in
+    c .block-refusal .ensures ∙ ap (λ (k : ℕ). blockRefusal k (now (s .args .joints))) j ∙ sym (arms-there _ _ _ (u .have))
+
+pub block-on-spec : {M : Type 1} → statement M
+block-on-spec =
+    tie.close
+    (tie.spec
+    in-use-requires
+    returns
+    slice-aggregate-joint-number
+    joint-number-requires
+    block-refusal-requires
+    returns-2)

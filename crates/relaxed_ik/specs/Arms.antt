@@ -1,0 +1,17 @@
+-- The calls that ask the arms alone, by the state.
+use mathlib.Core.List.{List}
+use Prim.Native.Nat.{ℕ}
+use lib.Ieee.{Float}
+use Rattle.geometry.specs.declared.pose.Pose.{Pose}
+use Rattle.relaxed_ik.specs.declared.state.State.{State}
+use Rattle.relaxed_ik.specs.Kept.{framesNumber, poseNumber, keptPose}
+
+-- the pose after each link in the walk of block x
+abbrev pub posesOf : State → List Float → ℕ → Pose
+posesOf s x = keptPose (s .arms .sizes) (s .arms .codes) (s .arms .floats) x
+
+abbrev pub framesNumberOf : State → List Float → ℕ → ℕ → ℕ
+framesNumberOf s x p r = framesNumber (s .arms .sizes) (s .arms .codes) x p r
+
+abbrev pub poseNumberOf : State → List Float → ℕ → ℕ
+poseNumberOf s x n = poseNumber (s .arms .sizes) (s .arms .codes) x n

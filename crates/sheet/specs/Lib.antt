@@ -1,0 +1,3 @@
+pub mod Code
+pub mod Chain
+pub mod Read

@@ -1,0 +1,81 @@
+// Chains and joints: `sizes` has the links of each chain, without the chain count in front.
+ghost use mathlib.Core.Path.{_≡_};
+ghost use Prim.Native.Nat.{_+_, _≤_, _<_, _^_};
+ghost use lib.ListN.{length, getD};
+ghost use Rattle.sheet.specs.Chain.{firstIn, endIn, total, jointsOf, jointOf};
+
+// Whether a link is the first of a chain.
+pub fn is_first(sizes: &[u16], link: usize) -> bool
+    ensures { λ r. ⌜ r ≡ firstIn (now (sizes .entry)) link ⌝ }
+{
+    let mut k = link;
+    let mut c = 0;
+    while c < sizes.len() {
+        if k == 0 {
+            return true;
+        }
+        let n = sizes[c] as usize;
+        if k < n {
+            return false;
+        }
+        k -= n;
+        c += 1;
+    }
+    k == 0
+}
+
+// The end of the chain of a link.
+pub fn chain_end(sizes: &[u16], link: usize) -> usize
+    requires { ⌜ length (now sizes) ≤ 4 ⌝ }
+    ensures { λ r. ⌜ r ≡ endIn (now (sizes .entry)) link ⌝ }
+{
+    let mut k = link;
+    let mut s: usize = 0;
+    let mut c = 0;
+    while c < sizes.len() {
+        let n = sizes[c] as usize;
+        s += n;
+        if k < n {
+            return s;
+        }
+        k -= n;
+        c += 1;
+    }
+    s
+}
+
+// The links of all chains.
+pub fn total_links(sizes: &[u16]) -> usize
+    requires { ⌜ length (now sizes) ≤ 4 ⌝ }
+    ensures { λ r. ⌜ r ≡ total (now (sizes .entry)) ⌝ }
+{
+    let mut s: usize = 0;
+    let mut c = 0;
+    while c < sizes.len() {
+        s += sizes[c] as usize;
+        c += 1;
+    }
+    s
+}
+
+// The number of the joint after a link.
+pub fn next_joint(codes: &[u16], link: usize, joint: usize) -> usize
+    requires { ⌜ (link < length (now codes)) × (joint + 1 < 2 ^ 64) ⌝ }
+    ensures { λ r. ⌜ r ≡ joint + jointsOf (getD (now (codes .entry)) link 0) ⌝ }
+{
+    if codes[link] == 0 { joint } else { joint + 1 }
+}
+
+// The number of a link's joint; at the length of the list, the number of all joints.
+pub fn joint_number(codes: &[u16], link: usize) -> usize
+    requires { ⌜ link ≤ length (now codes) ⌝ }
+    ensures { λ r. ⌜ r ≡ jointOf (now (codes .entry)) link ⌝ }
+{
+    let mut j: usize = 0;
+    let mut l = 0;
+    while l < link {
+        j = next_joint(codes, l, j);
+        l += 1;
+    }
+    j
+}

@@ -1,0 +1,34 @@
+// A code taken apart: the one place that knows which number is which kind and axis.
+ghost use mathlib.Core.Path.{_≡_};
+ghost use Rattle.sheet.specs.Code.{kindOf};
+
+// What a link does, with its axis: 0 none, 1 to 3 x, y, z, 4 to 6 their negatives.
+pub enum Kind {
+    Fixed,
+    Turning(u16),
+    Sliding(u16),
+    Unlisted,
+}
+
+pub fn take_apart(code: u16) -> Kind
+    ensures { λ r. ⌜ r ≡ kindOf code ⌝ }
+{
+    let axis = code % 10;
+    if code == 0 {
+        return Kind::Fixed;
+    }
+    if axis > 6 {
+        return Kind::Unlisted;
+    }
+    let tens = code / 10;
+    if tens == 1 {
+        return Kind::Turning(axis);
+    }
+    if tens == 2 {
+        return Kind::Turning(axis);
+    }
+    if tens == 3 {
+        return Kind::Sliding(axis);
+    }
+    Kind::Unlisted
+}

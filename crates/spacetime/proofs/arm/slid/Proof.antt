@@ -1,0 +1,26 @@
+-- `slid` meets its contract: each return follows the test. Assumes nothing.
+use borrow.Author.Tests.{eq-eqb, ne-eqb}
+use Rattle.spacetime.specs.Link.{slidOf}
+use borrow.Author.Needs.{needs}
+use Rattle.spacetime.proofs.arm.slid.Statement.{statement}
+use Rattle.spacetime.proofs.arm.slid.Tie as tie
+
+returns : tie.Need-returns
+unfolding slidOf
+returns c = rw (eq-eqb _ 0 (c .before .if1 .taken))
+
+carried-requires : tie.Need-carried-requires
+carried-requires c κs = search needs
+
+along-requires : tie.Need-along-requires
+along-requires c κs = search needs
+
+add-requires : tie.Need-add-requires
+add-requires c κs = search needs
+
+returns-2 : tie.Need-returns-2
+unfolding slidOf
+returns-2 c = rw (ne-eqb _ 0 (c .before .before .before .if1 .left)) (cc)
+
+pub slid-spec : {M : Type 1} → statement M
+slid-spec = tie.close (tie.spec returns carried-requires along-requires add-requires returns-2)

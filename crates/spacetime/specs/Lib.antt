@@ -1,0 +1,4 @@
+pub mod Link
+pub mod Floats
+pub mod Walk
+pub mod Frames

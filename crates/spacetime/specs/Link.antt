@@ -1,0 +1,66 @@
+-- The link step of arm.rs: the pose after a link, from the pose before it.
+use mathlib.Core.Bool.{Bool, true, false, cond}
+use Prim.Native.Nat.{ℕ, _%_}
+use lib.Dec.{eqb, ltb}
+use lib.Ieee.{Float, neg, ne}
+use Rattle.standins.specs.Num.{nought}
+use Rattle.geometry.specs.declared.vector.Vec3.{Vec3}
+use Rattle.geometry.specs.declared.quaternion.Quat.{Quat}
+use Rattle.geometry.specs.declared.pose.Pose.{Pose}
+use Rattle.geometry.specs.Vector.{addOf}
+use Rattle.geometry.specs.Quaternion.{productOf, rotateOf, quatXOf, quatYOf, quatZOf}
+use Rattle.sheet.specs.declared.code.Kind.{Kind}
+use Rattle.sheet.specs.declared.code.Kind.the-variants.{Fixed, Turning, Sliding, Unlisted}
+
+abbrev pub vecIf : Bool → Vec3 → Vec3 → Vec3
+vecIf true a b = a
+vecIf false a b = b
+
+abbrev pub quatIf : Bool → Quat → Quat → Quat
+quatIf true a b = a
+quatIf false a b = b
+
+-- an offset whose i, j, k are all 0 is skipped, w = -1 included
+unfoldable pub offsetOf : Quat → Quat → Quat
+offsetOf q o =
+    quatIf (ne (o .i) nought) (productOf q o)
+    (quatIf (ne (o .j) nought) (productOf q o)
+    (quatIf (ne (o .k) nought) (productOf q o)
+    q))
+
+-- a joint's value along its axis: axes 4 to 6 are the negatives
+unfoldable pub signedOf : ℕ → Float → Float
+signedOf a v = cond (ltb 3 a) (neg v) v
+
+-- v along axis a: axes 1 and 4 are x, 2 and 5 y, 3 and 6 z
+unfoldable pub alongOf : ℕ → Float → Vec3
+alongOf a v =
+    vecIf (eqb (a % 3) 1) (record { x = signedOf a v; y = nought; z = nought })
+    (vecIf (eqb (a % 3) 2) (record { x = nought; y = signedOf a v; z = nought })
+    (record { x = nought; y = nought; z = signedOf a v }))
+
+-- a turn by v about axis a
+unfoldable pub turnOf : ℕ → Float → Quat
+turnOf a v =
+    quatIf (eqb (a % 3) 1) (quatXOf (signedOf a v))
+    (quatIf (eqb (a % 3) 2) (quatYOf (signedOf a v))
+    (quatZOf (signedOf a v)))
+
+-- axis none does not turn
+unfoldable pub turnedOf : Quat → ℕ → Float → Quat
+turnedOf q a v = quatIf (eqb a 0) q (productOf q (turnOf a v))
+
+-- the point moved by the displacement, as the pose turns it
+unfoldable pub carriedOf : Pose → Vec3 → Vec3
+carriedOf p d = addOf (rotateOf (p .rotation) d) (p .position)
+
+-- a prismatic joint moves along the base's axis, unrotated; with axis none its displacement is not added either
+unfoldable pub slidOf : Pose → Vec3 → ℕ → Float → Vec3
+slidOf p d a v = vecIf (eqb a 0) (p .position) (addOf (carriedOf p d) (alongOf a v))
+
+-- the pose after a link of displacement d and offset o, its joint at v
+unfoldable pub linkOf : Kind → Vec3 → Quat → Float → Pose → Pose
+linkOf Fixed d o v p = record { position = carriedOf p d; rotation = offsetOf (p .rotation) o }
+linkOf Unlisted d o v p = record { position = carriedOf p d; rotation = offsetOf (p .rotation) o }
+linkOf (Turning a) d o v p = record { position = carriedOf p d; rotation = turnedOf (offsetOf (p .rotation) o) a v }
+linkOf (Sliding a) d o v p = record { position = slidOf p d a v; rotation = offsetOf (p .rotation) o }

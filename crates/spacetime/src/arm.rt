@@ -1,0 +1,194 @@
+// arm.rs: the step from link to link, and the walk of a chain.
+use crate::floats;
+use geometry::pose;
+use geometry::pose::Pose;
+use geometry::quaternion;
+use geometry::quaternion::Quat;
+use geometry::vector;
+use geometry::vector::Vec3;
+use sheet::chain;
+use sheet::code::Kind;
+use sheet::reader;
+ghost use mathlib.Core.Path.{_≡_};
+ghost use Prim.Native.Nat.{_+_, _*_, _≤_, _<_};
+ghost use lib.ListN.{length, getD};
+ghost use Rattle.lists.specs.Splice.{splice};
+ghost use Rattle.sheet.specs.Chain.{jointsOf};
+ghost use Rattle.spacetime.specs.Link.{offsetOf, signedOf, alongOf, turnOf, turnedOf, carriedOf, slidOf, linkOf};
+ghost use Rattle.spacetime.specs.Walk.{valueOf, afterLink, startOf, Sheet, framesOf};
+
+fn offset(q: Quat, o: Quat) -> Quat
+    ensures { λ r. ⌜ r ≡ offsetOf q o ⌝ }
+{
+    if o.i != 0.0 {
+        return quaternion::product(q, o);
+    }
+    if o.j != 0.0 {
+        return quaternion::product(q, o);
+    }
+    if o.k != 0.0 {
+        return quaternion::product(q, o);
+    }
+    q
+}
+
+fn signed(axis: u16, v: f64) -> f64
+    ensures { λ r. ⌜ r ≡ signedOf axis v ⌝ }
+{
+    if axis > 3 {
+        return -v;
+    }
+    v
+}
+
+// v along an axis of the base.
+pub fn along(axis: u16, v: f64) -> Vec3
+    ensures { λ r. ⌜ r ≡ alongOf axis v ⌝ }
+{
+    let s = signed(axis, v);
+    let coordinate = axis % 3;
+    if coordinate == 1 {
+        return Vec3 {
+            x: s,
+            y: 0.0,
+            z: 0.0,
+        };
+    }
+    if coordinate == 2 {
+        return Vec3 {
+            x: 0.0,
+            y: s,
+            z: 0.0,
+        };
+    }
+    Vec3 {
+        x: 0.0,
+        y: 0.0,
+        z: s,
+    }
+}
+
+fn turn(axis: u16, v: f64) -> Quat
+    ensures { λ r. ⌜ r ≡ turnOf axis v ⌝ }
+{
+    let s = signed(axis, v);
+    let coordinate = axis % 3;
+    if coordinate == 1 {
+        return quaternion::get_quat_x(s);
+    }
+    if coordinate == 2 {
+        return quaternion::get_quat_y(s);
+    }
+    quaternion::get_quat_z(s)
+}
+
+fn turned(q: Quat, axis: u16, v: f64) -> Quat
+    ensures { λ r. ⌜ r ≡ turnedOf q axis v ⌝ }
+{
+    if axis == 0 {
+        return q;
+    }
+    quaternion::product(q, turn(axis, v))
+}
+
+fn carried(p: Pose, d: Vec3) -> Vec3
+    ensures { λ r. ⌜ r ≡ carriedOf p d ⌝ }
+{
+    let at = p.position;
+    let q = p.rotation;
+    vector::add(quaternion::rotate(q, d), at)
+}
+
+fn slid(p: Pose, d: Vec3, axis: u16, v: f64) -> Vec3
+    ensures { λ r. ⌜ r ≡ slidOf p d axis v ⌝ }
+{
+    if axis == 0 {
+        return p.position;
+    }
+    vector::add(carried(p, d), along(axis, v))
+}
+
+// The pose after a link of displacement d and offset o, its joint at v.
+pub fn link(kind: Kind, d: Vec3, o: Quat, v: f64, p: Pose) -> Pose
+    ensures { λ r. ⌜ r ≡ linkOf kind d o v p ⌝ }
+{
+    let q = offset(p.rotation, o);
+    match kind {
+        Kind::Turning(axis) => Pose {
+            position: carried(p, d),
+            rotation: turned(q, axis, v),
+        },
+        Kind::Sliding(axis) => Pose {
+            position: slid(p, d, axis, v),
+            rotation: q,
+        },
+        Kind::Fixed => Pose {
+            position: carried(p, d),
+            rotation: q,
+        },
+        Kind::Unlisted => Pose {
+            position: carried(p, d),
+            rotation: q,
+        },
+    }
+}
+
+fn value(codes: &[u16], block: &[f64], link: usize, joint: usize) -> f64
+    requires { ⌜ (link < length (now codes)) × (joint + jointsOf (getD (now codes) link 0) ≤ length (now block)) ⌝ }
+    ensures { λ r. ⌜ r ≡ valueOf (now (codes .entry)) (now (block .entry)) link joint ⌝ }
+{
+    if codes[link] == 0 { 0.0 } else { block[joint] }
+}
+
+// The pose after a link of the sheet, its joint read from the block.
+pub fn after_link(
+    p: Pose,
+    codes: &[u16],
+    geo: &[f64],
+    block: &[f64],
+    at: usize,
+    joint: usize,
+) -> Pose
+    requires { ⌜ (at < length (now codes)) × (7 * at + 7 ≤ length (now geo)) ⌝ }
+    requires { ⌜ joint + jointsOf (getD (now codes) at 0) ≤ length (now block) ⌝ }
+    ensures { λ r. ⌜ r ≡ afterLink (now (codes .entry)) (now (geo .entry)) (now (block .entry)) p at joint ⌝ }
+{
+    let kind = reader::kind_at(codes, at);
+    let d = floats::get_vec(geo, 7 * at);
+    let o = floats::get_quat(geo, 7 * at + 3);
+    let v = value(codes, block, at, joint);
+    link(kind, d, o, v, p)
+}
+
+// The pose with which a link is met: a chain starts at the origin.
+pub fn start(sizes: &[u16], at: usize, p: Pose) -> Pose
+    ensures { λ r. ⌜ r ≡ startOf (now (sizes .entry)) at p ⌝ }
+{
+    if chain::is_first(sizes, at) {
+        return pose::origin();
+    }
+    p
+}
+
+// Walks all links, and writes the pose after each as seven floats.
+pub fn get_frames_immutable(
+    sizes: &[u16],
+    codes: &[u16],
+    geo: &[f64],
+    block: &[f64],
+    out: &mut [f64],
+)
+    requires { ⌜ Sheet (now sizes) (now codes) (now geo) (now block) ⌝ }
+    requires { ⌜ 7 * length (now codes) ≤ length (now out) ⌝ }
+    ensures { λ _. ⌜ now (out .exit) ≡ splice (now (out .entry)) 0 (framesOf (now (sizes .entry)) (now (codes .entry)) (now (geo .entry)) (now (block .entry))) ⌝ }
+{
+    let mut p = pose::origin();
+    let mut joint: usize = 0;
+    let mut at: usize = 0;
+    while at < codes.len() {
+        p = after_link(start(sizes, at, p), codes, geo, block, at, joint);
+        floats::put(out, 7 * at, p);
+        joint = chain::next_joint(codes, at, joint);
+        at += 1;
+    }
+}

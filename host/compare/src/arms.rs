@@ -1,0 +1,665 @@
+//! The byte calls on arms. A case is compared whole: the number answered, what
+//! the outputs hold, and every byte that the call was to leave alone, which is
+//! what it reads, the outputs' tails, a refused call's outputs, and the bytes
+//! between the lists.
+
+use crate::draw::Draw;
+use crate::run::{matches, Kind, Run};
+use crate::sheets::{damages, refused_shape, shape, Damage, Fit, List, Lists, Shape, CODES};
+use proved::arms;
+use reference::groove::vars::RelaxedIKVars;
+use reference::refusals::{self, f64s, u16s, Room};
+use reference::sheet;
+use std::fmt::Write as _;
+use std::ops::Range;
+
+#[derive(Clone, Copy, Debug, PartialEq)]
+enum Call {
+    Load,
+    SetGoals,
+    Frames,
+    Pose,
+    Manipulability,
+    Reset,
+    Update,
+}
+
+pub fn kinds() -> Vec<Kind> {
+    let kind = |name, about, run| Kind { name, about, run };
+    vec![
+        kind("load", "loading arms", |run| all(run, Call::Load)),
+        kind("set_goals", "setting goals", |run| all(run, Call::SetGoals)),
+        kind("frames", "positions and rotations", |run| {
+            all(run, Call::Frames)
+        }),
+        kind("pose", "end poses", |run| all(run, Call::Pose)),
+        kind("manipulability", "manipulability", |run| {
+            all(run, Call::Manipulability)
+        }),
+        kind("reset", "reset of the history", |run| all(run, Call::Reset)),
+        kind("update", "update of the history", |run| {
+            all(run, Call::Update)
+        }),
+    ]
+}
+
+impl Call {
+    /// The lists it reads, the sheet's four first.
+    fn read(self) -> &'static [List] {
+        use List::{Codes, Floats, Goals, History, Joints, Limits, Sizes};
+        match self {
+            Call::Load => &[Sizes, Codes, Floats, Limits],
+            Call::SetGoals => &[Sizes, Codes, Floats, Limits, Goals],
+            Call::Update => &[Sizes, Codes, Floats, Limits, History, Joints],
+            _ => &[Sizes, Codes, Floats, Limits, Joints],
+        }
+    }
+
+    /// Those after the sheet's.
+    fn own(self) -> &'static [List] {
+        &self.read()[4..]
+    }
+
+    /// Floats that its outputs need for lists of these counts.
+    fn needs(self, lists: &Lists) -> Vec<usize> {
+        let (chains, links, joints) = (lists.chains, lists.links, lists.joints);
+        match self {
+            Call::Load | Call::SetGoals => vec![],
+            Call::Frames => vec![3 * (links + chains), 4 * (links + 2 * chains)],
+            Call::Pose => vec![7 * chains],
+            Call::Manipulability => vec![1],
+            Call::Reset => vec![4 * joints, 7 * chains],
+            Call::Update => vec![4 * joints],
+        }
+    }
+
+    /// The proved library's answer.
+    fn ask(self, read: &[&[u8]], write: &mut [&mut [u8]]) -> u32 {
+        let [sizes, codes, floats, limits, own @ ..] = read else {
+            panic!("a sheet has four lists");
+        };
+        let sheet = arms::Sheet {
+            sizes,
+            codes,
+            floats,
+            limits,
+        };
+        match (self, own, write) {
+            (Call::Load, [], []) => arms::load(sheet),
+            (Call::SetGoals, [goals], []) => arms::set_goals(sheet, goals),
+            (Call::Frames, [joints], [positions, rotations]) => {
+                arms::frames(sheet, joints, positions, rotations)
+            }
+            (Call::Pose, [joints], [ends]) => arms::pose(sheet, joints, ends),
+            (Call::Manipulability, [joints], [value]) => arms::manipulability(sheet, joints, value),
+            (Call::Reset, [joints], [history, ends]) => arms::reset(sheet, joints, history, ends),
+            (Call::Update, [history, joints], [renewed]) => {
+                arms::update(sheet, history, joints, renewed)
+            }
+            _ => panic!("lists that do not belong to {self:?}"),
+        }
+    }
+}
+
+/// The reference's answers. It sees nothing but the bytes that the call is
+/// lent, and keeps the arms made last, since many cases share a sheet.
+#[derive(Default)]
+struct Judge {
+    sizes: Vec<u16>,
+    codes: Vec<u16>,
+    floats: Vec<f64>,
+    limits: Vec<f64>,
+    own: [Vec<f64>; 2],
+    made: Option<RelaxedIKVars>,
+    made_from: [Vec<u8>; 4],
+}
+
+impl Judge {
+    /// The number, and what is written if that is 0.
+    fn answer(&mut self, call: Call, read: &[&[u8]], rooms: &[usize]) -> (u32, Vec<Vec<f64>>) {
+        let sheet = refusals::Sheet {
+            sizes: u16s(read[0], &mut self.sizes),
+            codes: u16s(read[1], &mut self.codes),
+            floats: f64s(read[2], &mut self.floats),
+            limits: f64s(read[3], &mut self.limits),
+        };
+        let [first, second] = &mut self.own;
+        let first = f64s(read.get(4).unwrap_or(&&[][..]), first);
+        let second = f64s(read.get(5).unwrap_or(&&[][..]), second);
+        let room = |at: usize| Room::of_bytes(rooms[at]);
+        let answer = match call {
+            Call::Load => refusals::load(&sheet),
+            Call::SetGoals => refusals::set_goals(&sheet, first),
+            Call::Frames => refusals::frames(&sheet, first, room(0), room(1)),
+            Call::Pose => refusals::pose(&sheet, first, room(0)),
+            Call::Manipulability => refusals::manipulability(&sheet, first, room(0)),
+            Call::Reset => refusals::reset(&sheet, first, room(0), room(1)),
+            Call::Update => refusals::update(&sheet, first, second, room(0)),
+        };
+        if answer != refusals::ACCEPTED || rooms.is_empty() {
+            return (answer, Vec::new());
+        }
+        if self.made_from.iter().zip(read).any(|(a, b)| a != b) {
+            self.made = None;
+        }
+        let vars = self.made.get_or_insert_with(|| {
+            for (kept, list) in self.made_from.iter_mut().zip(read) {
+                kept.clear();
+                kept.extend_from_slice(list);
+            }
+            let robot = sheet::robot(&self.sizes, &self.codes, &self.floats, &self.limits);
+            sheet::loaded(robot)
+        });
+        let (first, second) = (first.numbers, second.numbers);
+        let written = match call {
+            Call::Load | Call::SetGoals => Vec::new(),
+            Call::Frames => {
+                let (positions, rotations) = sheet::frames(&vars.robot, first);
+                vec![positions, rotations]
+            }
+            Call::Pose => vec![sheet::ends(&vars.robot, first)],
+            Call::Manipulability => vec![vec![vars.robot.get_manipulability_immutable(first)]],
+            Call::Reset => {
+                vars.reset(first.to_vec());
+                vec![sheet::history(vars), sheet::start_ends(vars)]
+            }
+            Call::Update => {
+                sheet::set_history(vars, first);
+                vars.update(second.to_vec());
+                vec![sheet::history(vars)]
+            }
+        };
+        (answer, written)
+    }
+}
+
+/// Lists side by side in memory, at any address, with some bytes between them.
+#[derive(Default)]
+struct Memory {
+    bytes: Vec<u8>,
+    places: Vec<Range<usize>>,
+}
+
+impl Memory {
+    fn clear(&mut self) {
+        self.bytes.clear();
+        self.places.clear();
+    }
+
+    /// Random bytes, up to this length.
+    fn fill(&mut self, length: usize, draw: &mut Draw) {
+        let start = self.bytes.len();
+        self.bytes.resize(length, 0);
+        for place in self.bytes[start..].chunks_mut(8) {
+            let count = place.len();
+            place.copy_from_slice(&draw.word().to_le_bytes()[..count]);
+        }
+    }
+
+    fn gap(&mut self, draw: &mut Draw) {
+        let length = self.bytes.len() + 1 + draw.below(16);
+        self.fill(length, draw);
+    }
+
+    fn add(&mut self, list: &[u8], draw: &mut Draw) {
+        self.gap(draw);
+        let start = self.bytes.len();
+        self.bytes.extend_from_slice(list);
+        self.places.push(start..self.bytes.len());
+    }
+
+    fn add_room(&mut self, length: usize, draw: &mut Draw) {
+        self.gap(draw);
+        let start = self.bytes.len();
+        self.fill(start + length, draw);
+        self.places.push(start..self.bytes.len());
+    }
+
+    fn lists(&self) -> Vec<&[u8]> {
+        let list = |place: &Range<usize>| &self.bytes[place.clone()];
+        self.places.iter().map(list).collect()
+    }
+
+    fn rooms(&mut self) -> Vec<&mut [u8]> {
+        let (mut rest, mut passed) = (&mut self.bytes[..], 0);
+        let mut rooms = Vec::new();
+        for place in &self.places {
+            let (before, after) = rest.split_at_mut(place.end - passed);
+            rooms.push(&mut before[place.start - passed..]);
+            (rest, passed) = (after, place.end);
+        }
+        rooms
+    }
+}
+
+/// What one case needs and the next one can use again.
+struct Trial {
+    call: Call,
+    judge: Judge,
+    read: Memory,
+    read_before: Vec<u8>,
+    write: Memory,
+    expected: Vec<u8>,
+}
+
+impl Trial {
+    fn new(call: Call) -> Self {
+        Self {
+            call,
+            judge: Judge::default(),
+            read: Memory::default(),
+            read_before: Vec::new(),
+            write: Memory::default(),
+            expected: Vec::new(),
+        }
+    }
+
+    fn check(&mut self, run: &mut Run, lists: &Lists, rooms: &[usize]) {
+        self.read.clear();
+        for &list in self.call.read() {
+            self.read.add(lists.get(list), &mut run.draw);
+        }
+        self.read.gap(&mut run.draw);
+        self.read_before.clone_from(&self.read.bytes);
+        self.write.clear();
+        for &length in rooms {
+            self.write.add_room(length, &mut run.draw);
+        }
+        self.write.gap(&mut run.draw);
+
+        let (number, written) = self.judge.answer(self.call, &self.read.lists(), rooms);
+        self.expected.clone_from(&self.write.bytes);
+        for (floats, place) in written.iter().zip(&self.write.places) {
+            assert!(8 * floats.len() <= place.len(), "room for what is written");
+            let places = self.expected[place.clone()].chunks_exact_mut(8);
+            for (place, float) in places.zip(floats) {
+                place.copy_from_slice(&float.to_le_bytes());
+            }
+        }
+
+        let answered = self.call.ask(&self.read.lists(), &mut self.write.rooms());
+        // The compiler may take it that nobody writes to what is only lent for
+        // reading; this is to find out.
+        let read = std::hint::black_box(&mut self.read.bytes);
+        let same = answered == number
+            && *read == self.read_before
+            && (self.write.bytes == self.expected || self.same_but_for_nans(&written));
+        run.answer(number);
+        run.case(same, || self.describe(answered, number));
+    }
+
+    /// A NaN matches a NaN where a float is written, and nowhere else.
+    #[cold]
+    fn same_but_for_nans(&mut self, written: &[Vec<f64>]) -> bool {
+        for (floats, place) in written.iter().zip(&self.write.places) {
+            for (at, &float) in floats.iter().enumerate() {
+                let here = place.start + 8 * at..place.start + 8 * at + 8;
+                let got = &self.write.bytes[here.clone()];
+                let bits = got.try_into().expect("eight bytes");
+                if float.is_nan() && matches(f64::from_le_bytes(bits), float) {
+                    self.expected[here].copy_from_slice(got);
+                }
+            }
+        }
+        self.write.bytes == self.expected
+    }
+
+    /// Everything lent, so that a case can be run again, and what differs.
+    fn describe(&self, answered: u32, number: u32) -> String {
+        let mut text = format!("  answered: proved {answered}, reference {number}\n");
+        for (list, place) in self.call.read().iter().zip(&self.read.places) {
+            let bytes = &self.read_before[place.clone()];
+            let _ = write!(text, "  {list:?}, {} bytes:", bytes.len());
+            if matches!(list, List::Sizes | List::Codes) {
+                for b in bytes.chunks_exact(2) {
+                    let _ = write!(text, " {}", u16::from_le_bytes([b[0], b[1]]));
+                }
+            } else {
+                for (at, b) in bytes.chunks_exact(8).enumerate() {
+                    let v = f64::from_le_bytes(b.try_into().expect("eight bytes"));
+                    let _ = write!(text, "\n    {at:<3} {:016x} {v:e}", v.to_bits());
+                }
+            }
+            text.push('\n');
+        }
+        if self.read.bytes != self.read_before {
+            text.push_str("  a list lent for reading was changed\n");
+        }
+        for (at, place) in self.write.places.iter().enumerate() {
+            let _ = writeln!(text, "  output {at}, {} bytes", place.len());
+            let both = |here: Range<usize>| (&self.write.bytes[here.clone()], &self.expected[here]);
+            for start in place.clone().step_by(8) {
+                let (got, wanted) = both(start..place.end.min(start + 8));
+                if got != wanted {
+                    let float = (start - place.start) / 8;
+                    let _ = writeln!(
+                        text,
+                        "    {float:<3} proved {}, reference {}",
+                        shown(got),
+                        shown(wanted)
+                    );
+                }
+            }
+        }
+        let inside = |at: &usize| self.write.places.iter().any(|place| place.contains(at));
+        if (0..self.expected.len())
+            .filter(|at| !inside(at))
+            .any(|at| self.write.bytes[at] != self.expected[at])
+        {
+            text.push_str("  a byte outside of the outputs was written\n");
+        }
+        text
+    }
+}
+
+/// Bits and value of a float; bytes that are none as they are.
+fn shown(bytes: &[u8]) -> String {
+    match bytes.try_into() {
+        Ok(eight) => {
+            let v = f64::from_le_bytes(eight);
+            format!("{:016x} {v:e}", v.to_bits())
+        }
+        Err(_) => format!("{bytes:02x?}"),
+    }
+}
+
+/// Where drawn cases come from. A sheet serves for several of them.
+struct Source {
+    call: Call,
+    damages: Vec<Damage>,
+    base: Lists,
+    left: usize,
+    lists: Lists,
+}
+
+impl Source {
+    fn new(call: Call) -> Self {
+        Self {
+            call,
+            damages: damages(call.read()),
+            base: Lists::default(),
+            left: 0,
+            lists: Lists::default(),
+        }
+    }
+
+    /// The next case's lists and the lengths of its outputs.
+    fn next(&mut self, draw: &mut Draw) -> (&Lists, Vec<usize>) {
+        if self.left == 0 {
+            (self.base, self.left) = match draw.word() % 8 {
+                0 => (Lists::of(&refused_shape(draw), draw), 4),
+                1 => (Lists::still(&shape(draw), draw), 8),
+                _ => (Lists::of(&shape(draw), draw), 16),
+            };
+        }
+        self.left -= 1;
+        self.lists.copy(&self.base);
+        self.lists.renew(self.call.own(), draw);
+        let faults = draw.pick(&[0, 0, 0, 0, 0, 1, 1, 2, 3]);
+        for _ in 0..faults {
+            let damage = draw.pick(&self.damages);
+            self.lists.spoil(damage, draw);
+        }
+        let needs = self.call.needs(&self.lists);
+        let rooms = needs.into_iter().map(|floats| {
+            let fit = match draw.word() % 16 {
+                0 => draw.pick(&Fit::ALL),
+                1..=4 => Fit::Long,
+                _ => Fit::Exact,
+            };
+            fit.bytes(floats)
+        });
+        let rooms = rooms.collect();
+        (&self.lists, rooms)
+    }
+}
+
+fn all(run: &mut Run, call: Call) {
+    let mut trial = Trial::new(call);
+    named(run, &mut trial);
+    every_code(run, &mut trial);
+    every_fault(run, &mut trial);
+    let mut source = Source::new(call);
+    while run.more() {
+        let (lists, rooms) = source.next(&mut run.draw);
+        trial.check(run, lists, &rooms);
+    }
+}
+
+fn exact(call: Call, lists: &Lists) -> Vec<usize> {
+    let needs = call.needs(lists).into_iter();
+    needs.map(|floats| Fit::Exact.bytes(floats)).collect()
+}
+
+/// Document 01's cases that are not proved, and shapes at the edge.
+fn named(run: &mut Run, trial: &mut Trial) {
+    let call = trial.call;
+    let mut plain = |run: &mut Run, shape: &Shape, change: &dyn Fn(&mut Lists)| {
+        let mut lists = Lists::plain(shape, &mut run.draw);
+        lists.renew(call.own(), &mut run.draw);
+        change(&mut lists);
+        trial.check(run, &lists, &exact(call, &lists));
+    };
+    let two = vec![vec![13, 12]];
+    // Joint 8 is taken, the next float above refused.
+    for v in [8.0, 8.0f64.next_up(), -8.0, (-8.0f64).next_down()] {
+        for joints in [[v, 0.5], [0.5, v]] {
+            plain(run, &two, &|lists| lists.set_floats(List::Joints, &joints));
+        }
+    }
+    // One joint is refused, two are taken.
+    for chain in [vec![13], vec![0, 13, 0], vec![0, 13, 0, 12], vec![13, 13]] {
+        plain(run, &vec![chain.clone()], &|_| {});
+        plain(run, &vec![vec![13; 4], chain], &|_| {});
+    }
+    // The difference of limits is rounded.
+    for (lower, upper) in [(5.0, 5.001), (1.0, 1.001), (0.0, 0.001), (1e-30, 0.001)] {
+        for limits in [[lower, upper, -3.0, 3.0], [-3.0, 3.0, lower, upper]] {
+            plain(run, &two, &|lists| lists.set_floats(List::Limits, &limits));
+        }
+    }
+    // Counts of chains, links and joints.
+    for first in 0..=18 {
+        plain(run, &vec![vec![13; first]], &|_| {});
+        plain(run, &vec![vec![13, 12, 0, 0]; first], &|_| {});
+        for second in 0..=17 {
+            plain(run, &vec![vec![13; first], vec![12; second]], &|_| {});
+            let mut fixed = vec![0; first];
+            fixed.extend([11, 12]);
+            plain(run, &vec![fixed, vec![12; second]], &|_| {});
+        }
+    }
+    plain(run, &vec![vec![0; 16]; 4], &|_| {});
+    let mut long = vec![0; 16];
+    (long[0], long[3], long[7], long[15]) = (11, 32, 20, 26);
+    plain(run, &vec![long; 4], &|_| {});
+}
+
+/// Every two codes before six turning links, so that manipulability is not 0,
+/// at joints of every sign.
+fn every_code(run: &mut Run, trial: &mut Trial) {
+    let call = trial.call;
+    for a in CODES {
+        for b in CODES {
+            for front in [true, false] {
+                let mut chain = vec![11, 12, 13, 14, 15, 16];
+                chain.splice(if front { 0..0 } else { 6..6 }, [a, b]);
+                let mut lists = Lists::still(&vec![chain.clone()], &mut run.draw);
+                for _ in 0..5 {
+                    lists.renew(call.own(), &mut run.draw);
+                    trial.check(run, &lists, &exact(call, &lists));
+                }
+                lists = Lists::of(&vec![chain], &mut run.draw);
+                lists.renew(call.own(), &mut run.draw);
+                for v in [8.0, -8.0, 0.0, -0.0, 0.5] {
+                    if call.own().contains(&List::Joints) {
+                        lists.set_floats(List::Joints, &vec![v; lists.joints]);
+                    }
+                    trial.check(run, &lists, &exact(call, &lists));
+                }
+            }
+        }
+    }
+}
+
+/// Every fault alone and every two together, on a few sheets; outputs of every
+/// length, alone and with every fault.
+fn every_fault(run: &mut Run, trial: &mut Trial) {
+    let call = trial.call;
+    let damages = damages(call.read());
+    let shapes: [Shape; 4] = [
+        vec![vec![13, 12]],
+        vec![vec![0, 13, 12, 11, 36, 23, 15, 16, 0]],
+        vec![vec![13, 32, 0, 10], vec![14, 0, 35, 20, 11]],
+        vec![vec![21, 12, 33, 14]; 4],
+    ];
+    for shape in &shapes {
+        let base = Lists::of(shape, &mut run.draw);
+        let mut lists = Lists::default();
+        let mut check = |run: &mut Run, faults: &[Damage], fits: Option<[Fit; 2]>| {
+            lists.copy(&base);
+            lists.renew(call.own(), &mut run.draw);
+            for &fault in faults {
+                lists.spoil(fault, &mut run.draw);
+            }
+            let fits = fits.unwrap_or([Fit::Exact; 2]);
+            let needs = call.needs(&lists).into_iter().zip(fits);
+            let rooms: Vec<usize> = needs.map(|(floats, fit)| fit.bytes(floats)).collect();
+            trial.check(run, &lists, &rooms);
+        };
+        check(run, &[], None);
+        for &fault in &damages {
+            check(run, &[fault], None);
+            for &other in &damages {
+                check(run, &[fault, other], None);
+            }
+        }
+        if call.needs(&base).is_empty() {
+            continue;
+        }
+        for first in Fit::ALL {
+            for second in Fit::ALL {
+                check(run, &[], Some([first, second]));
+                for &fault in &damages {
+                    check(run, &[fault], Some([first, second]));
+                }
+            }
+        }
+    }
+}
+
+#[cfg(test)]
+mod tests {
+    use super::*;
+    use std::collections::BTreeMap;
+
+    const CALLS: [Call; 7] = [
+        Call::Load,
+        Call::SetGoals,
+        Call::Frames,
+        Call::Pose,
+        Call::Manipulability,
+        Call::Reset,
+        Call::Update,
+    ];
+
+    /// Draws by the reference's answer, with what it would write.
+    fn drawn(call: Call, cases: usize) -> (BTreeMap<u32, usize>, Vec<Vec<f64>>) {
+        let (mut draw, mut source) = (Draw::new(5), Source::new(call));
+        let (mut judge, mut answers, mut last) = (Judge::default(), BTreeMap::new(), Vec::new());
+        for _ in 0..cases {
+            let (lists, rooms) = source.next(&mut draw);
+            let read = call.read().iter().map(|&list| lists.get(list));
+            let read: Vec<&[u8]> = read.collect();
+            let (number, written) = judge.answer(call, &read, &rooms);
+            *answers.entry(number).or_default() += 1;
+            last.extend(written.into_iter().next_back());
+        }
+        (answers, last)
+    }
+
+    /// All that a call can answer is drawn, and none of it rarely.
+    #[test]
+    fn every_number_is_drawn() {
+        for call in CALLS {
+            let mut possible = vec![1, 2, 3, 4, 5, 6];
+            possible.extend((call == Call::SetGoals).then_some(8));
+            if call.own().contains(&List::Joints) {
+                possible.extend([7, 9]);
+            }
+            let (answers, _) = drawn(call, 20_000);
+            for number in &possible {
+                assert!(answers[number] > 100, "{call:?} {number}: {answers:?}");
+            }
+            assert!(answers[&0] > 8_000, "{call:?}: {answers:?}");
+            assert_eq!(answers.len(), possible.len() + 1, "{call:?}");
+        }
+    }
+
+    /// The lengths that are taken are those of what the published functions
+    /// give, and no shorter ones.
+    #[test]
+    fn an_exact_room_is_filled() {
+        let (mut draw, mut judge) = (Draw::new(5), Judge::default());
+        for _ in 0..300 {
+            let mut lists = Lists::of(&shape(&mut draw), &mut draw);
+            for call in CALLS {
+                lists.renew(call.own(), &mut draw);
+                let read = call.read().iter().map(|&list| lists.get(list));
+                let read: Vec<&[u8]> = read.collect();
+                let mut rooms = exact(call, &lists);
+                let (number, written) = judge.answer(call, &read, &rooms);
+                let lengths: Vec<usize> = written.iter().map(|list| 8 * list.len()).collect();
+                assert_eq!((number, &lengths), (0, &rooms), "{call:?}");
+                for at in 0..rooms.len() {
+                    rooms[at] -= 8;
+                    assert_eq!(judge.answer(call, &read, &rooms).0, 9, "{call:?} {at}");
+                    rooms[at] += 8;
+                }
+            }
+        }
+    }
+
+    /// The cut to 0..1 hides a wrong Jacobian, so many must lie inside.
+    #[test]
+    fn manipulability_is_often_inside_the_cut() {
+        let (_, values) = drawn(Call::Manipulability, 20_000);
+        let inside = values.iter().filter(|v| v[0] > 0.0 && v[0] < 1.0).count();
+        assert!(inside > values.len() / 10, "{inside} of {}", values.len());
+    }
+
+    #[test]
+    fn a_nan_matches_a_nan_where_it_is_written() {
+        let nans = [f64::NAN, -f64::NAN].map(f64::to_le_bytes);
+        let case = |got: [[u8; 8]; 2], expected: [[u8; 8]; 2]| {
+            let mut trial = Trial::new(Call::Manipulability);
+            trial.write.bytes = got.concat();
+            trial.write.places.push(0..16);
+            trial.expected = expected.concat();
+            // One float is written, the other one is the tail.
+            let wanted = f64::from_le_bytes(expected[0]);
+            trial.same_but_for_nans(&[vec![wanted]])
+        };
+        let [one, other] = nans;
+        assert!(case([one, one], [other, one]));
+        assert!(!case([one, other], [one, one]));
+        assert!(!case([one, one], [0.0f64.to_le_bytes(), one]));
+        assert!(!case([0.0f64.to_le_bytes(), one], [one, one]));
+    }
+
+    #[test]
+    fn lists_lie_apart() {
+        let mut draw = Draw::new(3);
+        let mut memory = Memory::default();
+        memory.add(&[1, 2, 3], &mut draw);
+        memory.add_room(5, &mut draw);
+        memory.gap(&mut draw);
+        assert_eq!(memory.lists()[0], [1, 2, 3]);
+        let kept = memory.lists()[1].to_vec();
+        let rooms = memory.rooms();
+        assert_eq!(*rooms[1], kept);
+        assert_eq!((rooms.len(), rooms[0].len()), (2, 3));
+        assert!(memory.places[0].end < memory.places[1].start);
+        assert!(memory.places[1].end < memory.bytes.len());
+    }
+}

@@ -1,0 +1,786 @@
+//! Lists for the calls on arms: sheets that document 01 takes, with joints,
+//! histories and goals, and the ways to spoil them.
+
+use crate::draw::Draw;
+use proved::{put_floats, put_u16s};
+
+/// The lists that are read, in the order of the byte calls.
+#[derive(Clone, Copy, Debug, PartialEq)]
+pub enum List {
+    Sizes,
+    Codes,
+    Floats,
+    Limits,
+    Goals,
+    History,
+    Joints,
+}
+
+use List::{Codes, Floats, Goals, History, Joints, Limits, Sizes};
+
+const LISTS: [List; 7] = [Sizes, Codes, Floats, Limits, Goals, History, Joints];
+
+/// Fixed, then revolute, continuous and prismatic about every axis.
+pub const CODES: [u16; 22] = [
+    0, 10, 11, 12, 13, 14, 15, 16, 20, 21, 22, 23, 24, 25, 26, 30, 31, 32, 33, 34, 35, 36,
+];
+const UNLISTED: [u16; 13] = [37, 9, 40, 65535, 1, 6, 7, 17, 19, 27, 29, 39, 256];
+const IDENTITY: [f64; 4] = [1.0, 0.0, 0.0, 0.0];
+
+/// The codes of each chain's links.
+pub type Shape = Vec<Vec<u16>>;
+
+/// One case's lists in bytes, and the counts that they were made for.
+#[derive(Default)]
+pub struct Lists {
+    bytes: [Vec<u8>; LISTS.len()],
+    pub chains: usize,
+    pub links: usize,
+    pub joints: usize,
+    /// Whether joints are mostly zeros, to go with a sheet of zeros.
+    still: bool,
+}
+
+impl Lists {
+    pub fn get(&self, list: List) -> &[u8] {
+        &self.bytes[list as usize]
+    }
+
+    pub fn set_floats(&mut self, list: List, floats: &[f64]) {
+        put_floats(floats, &mut self.bytes[list as usize]);
+    }
+
+    /// Takes over another's, in the memory at hand.
+    pub fn copy(&mut self, other: &Self) {
+        for (to, from) in self.bytes.iter_mut().zip(&other.bytes) {
+            to.clone_from(from);
+        }
+        (self.chains, self.links, self.joints) = (other.chains, other.links, other.joints);
+        self.still = other.still;
+    }
+
+    /// A sheet of this shape, its numbers drawn. Goals, history and joints are
+    /// left empty.
+    pub fn of(shape: &Shape, draw: &mut Draw) -> Self {
+        let reach = draw.pick(&[10.0, 2.0, 1.0, 0.5, 0.2]);
+        Self::with(shape, draw, |draw| link(draw, reach), limits)
+    }
+
+    /// A sheet of zeros, ones and half turns. With anything else in a formula
+    /// the sign of a zero is soon lost.
+    pub fn still(shape: &Shape, draw: &mut Draw) -> Self {
+        let mut lists = Self::with(shape, draw, still_link, |_| [-3.0, 3.0]);
+        lists.still = true;
+        lists
+    }
+
+    /// A sheet of links up 1, with wide limits.
+    pub fn plain(shape: &Shape, draw: &mut Draw) -> Self {
+        Self::with(
+            shape,
+            draw,
+            |_| [0.0, 0.0, 1.0, 1.0, 0.0, 0.0, 0.0],
+            |_| [-3.0, 3.0],
+        )
+    }
+
+    fn with(
+        shape: &Shape,
+        draw: &mut Draw,
+        link: impl Fn(&mut Draw) -> [f64; 7],
+        limits: impl Fn(&mut Draw) -> [f64; 2],
+    ) -> Self {
+        let mut sizes = vec![shape.len() as u16];
+        sizes.extend(shape.iter().map(|chain| chain.len() as u16));
+        let codes = shape.concat();
+        let joints = codes.iter().filter(|&&code| code != 0).count();
+        let mut lists = Self {
+            chains: shape.len(),
+            links: codes.len(),
+            joints,
+            ..Self::default()
+        };
+        put_u16s(&sizes, &mut lists.bytes[Sizes as usize]);
+        put_u16s(&codes, &mut lists.bytes[Codes as usize]);
+        let floats: Vec<[f64; 7]> = codes.iter().map(|_| link(draw)).collect();
+        lists.set_floats(Floats, floats.as_flattened());
+        let limits: Vec<[f64; 2]> = (0..joints).map(|_| limits(draw)).collect();
+        lists.set_floats(Limits, limits.as_flattened());
+        lists
+    }
+
+    /// Draws these anew: goals, history, joints.
+    pub fn renew(&mut self, lists: &[List], draw: &mut Draw) {
+        for &list in lists {
+            let bytes = &mut self.bytes[list as usize];
+            bytes.clear();
+            if list == Goals {
+                (0..self.chains).for_each(|_| push(bytes, &goal(draw)));
+                continue;
+            }
+            let blocks = if list == History { 4 } else { 1 };
+            for _ in 0..blocks * self.joints {
+                let value = if self.still && draw.word() % 8 != 0 {
+                    zero(draw)
+                } else {
+                    joint(draw)
+                };
+                push(bytes, &[value]);
+            }
+        }
+    }
+
+    /// Puts floats at a place, as far as the list reaches.
+    fn put(&mut self, list: List, at: usize, floats: &[f64]) {
+        let places = self.bytes[list as usize].chunks_exact_mut(8).skip(at);
+        for (place, float) in places.zip(floats) {
+            place.copy_from_slice(&float.to_le_bytes());
+        }
+    }
+
+    fn put_u16(&mut self, list: List, at: usize, number: u16) {
+        if let Some(place) = self.bytes[list as usize].chunks_exact_mut(2).nth(at) {
+            place.copy_from_slice(&number.to_le_bytes());
+        }
+    }
+
+    /// A drawn place among the groups of so many floats; 0 if there are none.
+    fn place(&self, list: List, group: usize, draw: &mut Draw) -> usize {
+        let groups = self.bytes[list as usize].len() / (8 * group);
+        group * draw.below(groups.max(1))
+    }
+
+    pub fn spoil(&mut self, damage: Damage, draw: &mut Draw) {
+        match damage {
+            Damage::Length(list, change) => {
+                let unit = if matches!(list, Sizes | Codes) { 2 } else { 8 };
+                change.apply(&mut self.bytes[list as usize], unit, draw);
+            }
+            Damage::Code(code) => {
+                let at = draw.below(self.bytes[Codes as usize].len() / 2 + 1);
+                self.put_u16(Codes, at, code);
+            }
+            Damage::Fixed => {
+                // Takes joints away and leaves the limits.
+                let at = draw.below(self.bytes[Codes as usize].len() / 2 + 1);
+                self.put_u16(Codes, at, 0);
+                self.put_u16(Codes, at + 1, 0);
+            }
+            Damage::Chains(count) => self.put_u16(Sizes, 0, count),
+            Damage::Links(count) => {
+                let at = 1 + draw.below(self.chains.max(1));
+                self.put_u16(Sizes, at, count);
+            }
+            Damage::Displacement(value) => {
+                let at = self.place(Floats, 7, draw) + draw.below(3);
+                self.put(Floats, at, &[value]);
+            }
+            Damage::Offset(edge) => {
+                let at = self.place(Floats, 7, draw) + 3;
+                self.put(Floats, at, &turn(draw, edge));
+            }
+            Damage::OffsetPart(value) => {
+                let at = self.place(Floats, 7, draw) + 3 + draw.below(4);
+                self.put(Floats, at, &[value]);
+            }
+            Damage::Pair(lower, upper) => {
+                let at = self.place(Limits, 2, draw);
+                self.put(Limits, at, &[lower, upper]);
+            }
+            Damage::Narrow(edge) => {
+                let at = self.place(Limits, 2, draw);
+                self.put(Limits, at, &narrow(draw, edge));
+            }
+            Damage::Value(list, value) => {
+                let at = self.place(list, 1, draw);
+                self.put(list, at, &[value]);
+            }
+            Damage::GoalPart(value) => {
+                let part = draw.pick(&[0, 1, 2, 7, 8, 9, 10, 11, 12]);
+                let at = self.place(Goals, 13, draw) + part;
+                self.put(Goals, at, &[value]);
+            }
+            Damage::GoalTurn(edge) => {
+                let at = self.place(Goals, 13, draw) + 3;
+                self.put(Goals, at, &turn(draw, edge));
+            }
+        }
+    }
+}
+
+fn push(bytes: &mut Vec<u8>, floats: &[f64]) {
+    for float in floats {
+        bytes.extend_from_slice(&float.to_le_bytes());
+    }
+}
+
+/// Where a drawn group lies: anywhere that is taken, or as near as floats
+/// allow to the edge, on this side or on that.
+#[derive(Clone, Copy, Debug, PartialEq)]
+pub enum Edge {
+    In,
+    JustIn,
+    JustOut,
+}
+
+#[derive(Clone, Copy, Debug)]
+pub enum Change {
+    Short,
+    Long,
+    Empty,
+    ByteLess,
+    ByteMore,
+}
+
+impl Change {
+    const ALL: [Self; 5] = [
+        Self::Short,
+        Self::Long,
+        Self::Empty,
+        Self::ByteLess,
+        Self::ByteMore,
+    ];
+
+    /// What is added is the list's own last number, so that only the length is
+    /// wrong.
+    fn apply(self, bytes: &mut Vec<u8>, unit: usize, draw: &mut Draw) {
+        let length = bytes.len();
+        match self {
+            Self::Short => bytes.truncate(length.saturating_sub(unit)),
+            Self::Long if length >= unit => bytes.extend_from_within(length - unit..),
+            Self::Long => bytes.resize(length + unit, 0),
+            Self::Empty => bytes.clear(),
+            Self::ByteLess => bytes.truncate(length.saturating_sub(1)),
+            Self::ByteMore => bytes.push(draw.word() as u8),
+        }
+    }
+}
+
+#[derive(Clone, Copy, Debug)]
+pub enum Damage {
+    Length(List, Change),
+    Code(u16),
+    Fixed,
+    Chains(u16),
+    Links(u16),
+    Displacement(f64),
+    Offset(Edge),
+    OffsetPart(f64),
+    Pair(f64, f64),
+    Narrow(Edge),
+    Value(List, f64),
+    GoalPart(f64),
+    GoalTurn(Edge),
+}
+
+/// One ulp outside of a range on either side, then what is in no range.
+fn outside(end: f64) -> [f64; 5] {
+    let beyond = end.next_up();
+    [beyond, -beyond, f64::NAN, f64::INFINITY, f64::NEG_INFINITY]
+}
+
+/// Every damage to the lists that a call reads. A few are none: the value lies
+/// on the edge, or there is a pair of -999 and 999 already.
+pub fn damages(read: &[List]) -> Vec<Damage> {
+    let mut all = Vec::new();
+    for &list in read {
+        all.extend(Change::ALL.map(|change| Damage::Length(list, change)));
+    }
+    all.extend(UNLISTED.map(Damage::Code));
+    all.push(Damage::Fixed);
+    all.extend([0, 1, 2, 3, 4, 5, 65535].map(Damage::Chains));
+    all.extend([0, 1, 16, 17, 65535].map(Damage::Links));
+    all.extend(outside(10.0).map(Damage::Displacement));
+    all.extend([10.0, -10.0].map(Damage::Displacement));
+    all.extend([Edge::JustIn, Edge::JustOut].map(Damage::Offset));
+    all.extend([f64::NAN, f64::INFINITY, 1e-4, 1.1].map(Damage::OffsetPart));
+    all.extend([Edge::JustIn, Edge::JustOut].map(Damage::Narrow));
+    let (free, most) = (999.0f64, 100.0f64);
+    all.extend(
+        [
+            (-free, free),
+            (-free, free.next_up()),
+            (-free, free.next_down()),
+            ((-free).next_up(), free),
+            ((-free).next_down(), free),
+            (free, -free),
+            (free, free),
+            (-free, most),
+            (-most, free),
+            (-most, most),
+            ((-most).next_down(), 0.0),
+            (0.0, most.next_up()),
+            (most, most),
+            (0.5, -0.5),
+            (0.0, 0.0),
+            (5.0, 5.001),
+            (1.0, 1.001),
+            (f64::NAN, 1.0),
+            (-1.0, f64::NAN),
+            (f64::NEG_INFINITY, 1.0),
+            (-1.0, f64::INFINITY),
+        ]
+        .map(|(lower, upper)| Damage::Pair(lower, upper)),
+    );
+    for list in [Joints, History] {
+        if read.contains(&list) {
+            all.extend(outside(8.0).map(|v| Damage::Value(list, v)));
+            all.extend([8.0, -8.0].map(|v| Damage::Value(list, v)));
+        }
+    }
+    if read.contains(&Goals) {
+        all.extend(outside(100.0).map(Damage::GoalPart));
+        all.extend([100.0, -100.0].map(Damage::GoalPart));
+        all.extend([Edge::JustIn, Edge::JustOut].map(Damage::GoalTurn));
+        all.push(Damage::Value(Goals, f64::NAN));
+    }
+    all
+}
+
+/// How long an output is, against what the call needs.
+#[derive(Clone, Copy, Debug)]
+pub enum Fit {
+    Exact,
+    Long,
+    Longer,
+    Short,
+    ByteLess,
+    ByteMore,
+    FourMore,
+    Empty,
+}
+
+impl Fit {
+    pub const ALL: [Self; 8] = [
+        Self::Exact,
+        Self::Long,
+        Self::Longer,
+        Self::Short,
+        Self::ByteLess,
+        Self::ByteMore,
+        Self::FourMore,
+        Self::Empty,
+    ];
+
+    pub fn bytes(self, floats: usize) -> usize {
+        match self {
+            Self::Exact => 8 * floats,
+            Self::Long => 8 * floats + 8,
+            Self::Longer => 8 * floats + 40,
+            Self::Short => (8 * floats).saturating_sub(8),
+            Self::ByteLess => (8 * floats).saturating_sub(1),
+            Self::ByteMore => 8 * floats + 1,
+            Self::FourMore => 8 * floats + 4,
+            Self::Empty => 0,
+        }
+    }
+}
+
+/// A shape that is taken: 1 to 4 chains, 2 to 16 joints in all.
+pub fn shape(draw: &mut Draw) -> Shape {
+    let chains = draw.pick(&[1, 1, 1, 1, 2, 2, 3, 4]);
+    let all = match draw.word() % 8 {
+        0 => 16,
+        1 => 7.max(2 * chains),
+        2 => 6.max(2 * chains),
+        _ => 2 * chains + draw.below(17 - 2 * chains),
+    };
+    let mut joints = vec![2; chains];
+    for _ in 2 * chains..all {
+        joints[draw.below(chains)] += 1;
+    }
+    let later = joints[1..].iter().max().copied().unwrap_or(0);
+    let mut links: Vec<usize> = joints.iter().map(|&n| n + fixed(draw, 16 - n)).collect();
+    // Chain 0 has as many links as a later one has joints, often just so.
+    if links[0] < later || draw.word() % 2 == 0 {
+        links[0] = joints[0].max(later);
+    }
+    let style = draw.word();
+    let chain = |(&links, &joints): (&usize, &usize)| chain(draw, links, joints, style);
+    links.iter().zip(&joints).map(chain).collect()
+}
+
+/// How many fixed links a chain gets, at most so many.
+fn fixed(draw: &mut Draw, most: usize) -> usize {
+    match draw.word() % 8 {
+        0..=2 => 0,
+        3..=6 => draw.below(3).min(most),
+        _ => draw.below(most + 1),
+    }
+}
+
+/// Fixed links anywhere, with a liking for the first and the last place.
+fn chain(draw: &mut Draw, links: usize, joints: usize, style: u64) -> Vec<u16> {
+    let mut codes = vec![0; links];
+    let mut places: Vec<usize> = (0..links).collect();
+    let mut left = joints;
+    for end in [links - 1, 0] {
+        if places.len() > left && draw.word() % 2 == 0 {
+            places.retain(|&place| place != end);
+        }
+    }
+    while left > 0 {
+        let at = draw.below(places.len());
+        codes[places.swap_remove(at)] = joint_code(draw, style);
+        left -= 1;
+    }
+    codes
+}
+
+/// The style says which kinds a sheet has.
+fn joint_code(draw: &mut Draw, style: u64) -> u16 {
+    let axis = 1 + draw.below(6) as u16;
+    let turning = draw.pick(&[10, 20]);
+    match style % 8 {
+        0..=2 => turning + axis,
+        3 => turning + draw.below(7) as u16,
+        4 if draw.word() % 4 == 0 => 30 + draw.below(7) as u16,
+        4 => turning + axis,
+        5 => 30 + draw.below(7) as u16,
+        _ => draw.pick(&CODES[1..]),
+    }
+}
+
+/// Shapes that are refused by 1 or by 4, with lists as they should be for
+/// them.
+pub fn refused_shape(draw: &mut Draw) -> Shape {
+    let of = |draw: &mut Draw, counts: &[usize]| -> Shape {
+        let style = draw.word();
+        counts.iter().map(|&n| chain(draw, n, n, style)).collect()
+    };
+    match draw.word() % 8 {
+        // One joint in a chain, or none.
+        0 | 1 => {
+            let mut shape = shape(draw);
+            let at = draw.below(shape.len());
+            let mut keep = draw.below(2);
+            for code in &mut shape[at] {
+                if *code != 0 {
+                    *code = if keep > 0 { *code } else { 0 };
+                    keep = keep.saturating_sub(1);
+                }
+            }
+            shape
+        }
+        // 17 joints, or a few more.
+        2 | 3 => {
+            let first = 9 + draw.below(7);
+            let rest = 17 - first + draw.below(2) * draw.below(3);
+            match rest {
+                4.. if draw.word() % 2 == 0 => of(draw, &[first, 2, rest - 2]),
+                2.. => of(draw, &[first, rest]),
+                _ => of(draw, &[first, 2]),
+            }
+        }
+        // A later chain with one joint more than chain 0 has links.
+        4 | 5 => {
+            let first = 2 + draw.below(6);
+            match draw.word() % 2 {
+                0 => of(draw, &[first, first + 1]),
+                _ => of(draw, &[first.min(6), 2, first.min(6) + 1]),
+            }
+        }
+        6 => match draw.word() % 2 {
+            0 => Vec::new(),
+            _ => of(draw, &[4, 3, 3, 3, 3]),
+        },
+        _ => {
+            let mut shape = shape(draw);
+            let at = draw.below(shape.len());
+            let count = draw.pick(&[0, 17]);
+            shape[at].resize(count, 0);
+            shape
+        }
+    }
+}
+
+/// A zero of either sign.
+fn zero(draw: &mut Draw) -> f64 {
+    draw.pick(&[0.0, -0.0])
+}
+
+/// Displacement and offset.
+fn link(draw: &mut Draw, reach: f64) -> [f64; 7] {
+    let [x, y, z] = match draw.word() % 8 {
+        // A link without length.
+        0 => [zero(draw), zero(draw), zero(draw)],
+        1 => [0.0; 3].map(|_: f64| match draw.word() % 8 {
+            0 => 10.0,
+            1 => -10.0,
+            2 => draw.small(60),
+            3 => draw.subnormal(),
+            4 | 5 => zero(draw),
+            _ => draw.between(-reach, reach),
+        }),
+        _ => [0.0; 3].map(|_: f64| draw.between(-reach, reach)),
+    };
+    let [w, i, j, k] = turn(draw, Edge::In);
+    [x, y, z, w, i, j, k]
+}
+
+fn still_link(draw: &mut Draw) -> [f64; 7] {
+    let mut link = [0.0; 7].map(|_: f64| zero(draw));
+    if draw.word() % 4 == 0 {
+        link[draw.below(3)] = draw.pick(&[1.0, -1.0]);
+    }
+    // Half of the offsets turn nothing, and are skipped.
+    let part = draw.pick(&[0, 0, 0, 1, 2, 3]);
+    link[3 + part] = draw.pick(&[1.0, -1.0]);
+    link
+}
+
+fn is_turn([w, i, j, k]: [f64; 4]) -> bool {
+    (0.999999999..=1.000000001).contains(&(w * w + i * i + j * j + k * k))
+}
+
+fn unit(draw: &mut Draw) -> [f64; 4] {
+    let q = [0.0; 4].map(|_: f64| draw.between(-1.0, 1.0));
+    let size = (q[0] * q[0] + q[1] * q[1] + q[2] * q[2] + q[3] * q[3]).sqrt();
+    let q = q.map(|c| c / size);
+    // A draw of zeros would have no direction.
+    if is_turn(q) {
+        q
+    } else {
+        IDENTITY
+    }
+}
+
+fn turn(draw: &mut Draw, edge: Edge) -> [f64; 4] {
+    if edge != Edge::In {
+        return edge_turn(draw, edge);
+    }
+    match draw.word() % 16 {
+        // None, which is skipped whatever the zeros' signs.
+        0..=3 => [1.0, zero(draw), zero(draw), zero(draw)],
+        4 | 5 => [-1.0, zero(draw), zero(draw), zero(draw)],
+        6 => edge_turn(draw, Edge::JustIn),
+        // About one axis.
+        7 => {
+            let [a, b, ..] = unit(draw);
+            let size = (a * a + b * b).sqrt();
+            let mut q = [a / size, zero(draw), zero(draw), zero(draw)];
+            q[1 + draw.below(3)] = b / size;
+            if is_turn(q) {
+                q
+            } else {
+                IDENTITY
+            }
+        }
+        // Hardly any, which is not skipped.
+        8 => {
+            let mut q = [draw.pick(&[1.0, -1.0]), 0.0, 0.0, 0.0];
+            q[1 + draw.below(3)] = match draw.word() % 2 {
+                0 => draw.subnormal(),
+                _ => draw.small(900) * 1e-12,
+            };
+            q
+        }
+        // By half.
+        9 => {
+            let mut q = [0.0; 4].map(|_: f64| zero(draw));
+            q[1 + draw.below(3)] = draw.pick(&[1.0, -1.0]);
+            q
+        }
+        _ => unit(draw),
+    }
+}
+
+/// The largest part is moved by ulps across the tolerance's edge.
+fn edge_turn(draw: &mut Draw, edge: Edge) -> [f64; 4] {
+    let end = draw.pick(&[0.999999999f64, 1.000000001]);
+    let mut q = match draw.word() % 4 {
+        0 => [draw.pick(&[1.0, -1.0]), zero(draw), zero(draw), zero(draw)],
+        _ => unit(draw),
+    };
+    q = q.map(|c| c * end.sqrt());
+    let mut at = 0;
+    for other in 1..4 {
+        if q[other].abs() > q[at].abs() {
+            at = other;
+        }
+    }
+    let larger = |v: f64| v.signum() * v.abs().next_up();
+    let smaller = |v: f64| v.signum() * v.abs().next_down();
+    let (inwards, outwards): (&dyn Fn(f64) -> f64, &dyn Fn(f64) -> f64) = if end > 1.0 {
+        (&smaller, &larger)
+    } else {
+        (&larger, &smaller)
+    };
+    while is_turn(q) {
+        q[at] = outwards(q[at]);
+    }
+    let mut out = q;
+    while !is_turn(q) {
+        out = q;
+        q[at] = inwards(q[at]);
+    }
+    match edge {
+        Edge::JustOut => out,
+        _ => q,
+    }
+}
+
+fn limits(draw: &mut Draw) -> [f64; 2] {
+    match draw.word() % 8 {
+        0 | 1 => [-999.0, 999.0],
+        2 => [-100.0, 100.0],
+        3 => narrow(draw, Edge::JustIn),
+        4 => [-8.0, 8.0],
+        5 => {
+            let lower = draw.between(-100.0, 99.9);
+            [lower, draw.between(lower + 0.0011, 100.0)]
+        }
+        _ => [draw.between(-3.2, 0.0), draw.between(0.1, 3.2)],
+    }
+}
+
+/// A pair about 0.001 apart. Beside a small number the difference rounds, so
+/// some lie on the other side of the edge before that.
+fn narrow(draw: &mut Draw, edge: Edge) -> [f64; 2] {
+    let lower = match draw.word() % 8 {
+        0 => zero(draw),
+        1 => draw.small(60) * 1e-4,
+        2 => draw.small(200) * 1e-12,
+        3 => draw.between(-0.0009, 0.001),
+        4 => draw.pick(&[1.0, 5.0, -100.0, 99.999, -5.001, -1.001]),
+        5 => draw.subnormal(),
+        _ => draw.between(-100.0, 99.99),
+    };
+    let apart = |upper: f64| upper - lower >= 0.001;
+    let mut upper = lower + 0.001;
+    for _ in 0..64 {
+        if apart(upper) {
+            upper = upper.next_down();
+        }
+    }
+    for _ in 0..64 {
+        if !apart(upper.next_up()) {
+            upper = upper.next_up();
+        }
+    }
+    match edge {
+        Edge::JustOut => [lower, upper],
+        _ if apart(upper.next_up()) && upper.next_up() <= 100.0 => [lower, upper.next_up()],
+        _ => [5.0, 5.001],
+    }
+}
+
+fn joint(draw: &mut Draw) -> f64 {
+    match draw.word() % 16 {
+        0 => 8.0,
+        1 => -8.0,
+        2 => 0.0,
+        3 => -0.0,
+        4 => draw.small(60),
+        5 => draw.subnormal(),
+        6 => {
+            let quarter = std::f64::consts::FRAC_PI_2;
+            draw.pick(&[quarter, -quarter, 2.0 * quarter, -2.0 * quarter])
+        }
+        7 | 8 => draw.between(-1.0, 1.0),
+        _ => draw.between(-8.0, 8.0),
+    }
+}
+
+/// Position, quaternion, six tolerances.
+#[allow(clippy::approx_constant)]
+fn goal(draw: &mut Draw) -> [f64; 13] {
+    let mut goal = [0.0; 13].map(|_: f64| match draw.word() % 8 {
+        0 => draw.pick(&[100.0, -100.0]),
+        1 => zero(draw),
+        2 => draw.pick(&[0.01, 0.05, 3.14159260, 3.2]),
+        3 => draw.small(60),
+        _ => draw.between(-100.0, 100.0),
+    });
+    goal[3..7].copy_from_slice(&turn(draw, Edge::In));
+    goal
+}
+
+#[cfg(test)]
+mod tests {
+    use super::*;
+    use reference::refusals::{f64s, load, u16s, Sheet};
+
+    fn loaded(lists: &Lists) -> u32 {
+        let (mut sizes, mut codes) = (Vec::new(), Vec::new());
+        let (mut floats, mut limits) = (Vec::new(), Vec::new());
+        load(&Sheet {
+            sizes: u16s(lists.get(Sizes), &mut sizes),
+            codes: u16s(lists.get(Codes), &mut codes),
+            floats: f64s(lists.get(Floats), &mut floats),
+            limits: f64s(lists.get(Limits), &mut limits),
+        })
+    }
+
+    #[test]
+    fn drawn_sheets_are_taken_and_differ() {
+        let mut draw = Draw::new(2);
+        let (mut chains, mut joints) = ([false; 5], [false; 17]);
+        let (mut codes, mut ends) = ([false; 37], [false; 2]);
+        let mut edge = false;
+        for _ in 0..20_000 {
+            let shape = shape(&mut draw);
+            let lists = Lists::of(&shape, &mut draw);
+            assert_eq!(loaded(&lists), 0, "{shape:?}");
+            assert_eq!(loaded(&Lists::still(&shape, &mut draw)), 0, "{shape:?}");
+            chains[lists.chains] = true;
+            joints[lists.joints] = true;
+            for chain in &shape {
+                chain.iter().for_each(|&code| codes[code as usize] = true);
+                ends[0] |= chain[0] == 0;
+                ends[1] |= chain[chain.len() - 1] == 0;
+            }
+            let count = |chain: &Vec<u16>| chain.iter().filter(|&&code| code != 0).count();
+            edge |= shape[1..]
+                .iter()
+                .any(|chain| count(chain) == shape[0].len());
+        }
+        assert!(chains[1..].iter().all(|&met| met));
+        assert!(joints[2..].iter().all(|&met| met));
+        assert!(CODES.iter().all(|&code| codes[code as usize]));
+        assert!(ends == [true; 2] && edge);
+    }
+
+    #[test]
+    fn refused_shapes_are_refused_for_their_shape() {
+        let mut draw = Draw::new(2);
+        let mut met = [0; 7];
+        for _ in 0..20_000 {
+            let shape = refused_shape(&mut draw);
+            met[loaded(&Lists::of(&shape, &mut draw)) as usize] += 1;
+        }
+        assert!(met[1] > 1_000 && met[4] > 1_000, "{met:?}");
+        assert_eq!(met[1] + met[4], 20_000, "{met:?}");
+    }
+
+    /// What lies on an edge lies on the side that is asked for.
+    #[test]
+    fn edges_are_just_in_and_just_out() {
+        let mut draw = Draw::new(2);
+        for _ in 0..20_000 {
+            assert!(is_turn(turn(&mut draw, Edge::In)));
+            assert!(is_turn(turn(&mut draw, Edge::JustIn)));
+            assert!(!is_turn(turn(&mut draw, Edge::JustOut)));
+            let [lower, upper] = narrow(&mut draw, Edge::JustIn);
+            assert!(upper - lower >= 0.001 && upper <= 100.0 && lower >= -100.0);
+            let [lower, upper] = narrow(&mut draw, Edge::JustOut);
+            assert!(upper - lower < 0.001, "{lower:e} {upper:e}");
+            assert!(upper.next_up() - lower >= 0.001, "{lower:e} {upper:e}");
+        }
+    }
+
+    #[test]
+    fn a_changed_length_is_just_that() {
+        let mut draw = Draw::new(2);
+        let changed = |change: Change, draw: &mut Draw| {
+            let mut bytes = vec![1, 2, 3, 4];
+            change.apply(&mut bytes, 2, draw);
+            bytes
+        };
+        assert_eq!(changed(Change::Short, &mut draw), [1, 2]);
+        assert_eq!(changed(Change::Long, &mut draw), [1, 2, 3, 4, 3, 4]);
+        assert!(changed(Change::Empty, &mut draw).is_empty());
+        assert_eq!(changed(Change::ByteLess, &mut draw), [1, 2, 3]);
+        assert_eq!(changed(Change::ByteMore, &mut draw)[..4], [1, 2, 3, 4]);
+    }
+}

@@ -1,0 +1,263 @@
+//! Ours, no part of the published files: the refusals 1 to 9 of document 01's
+//! section 'From the input', written from the paper, apart from the proved
+//! code. Each public call below answers 0 or the lowest number that applies.
+//! The state numbers 20 to 22 are no concern here: a byte call keeps no state.
+
+use crate::sheet::{END_FLOATS, GOAL_FLOATS, LINK_FLOATS};
+
+/// The answer of a call that is not refused.
+pub const ACCEPTED: u32 = 0;
+/// A history's blocks: current, then three earlier ones.
+pub const BLOCKS: usize = 4;
+
+/// A list that is read. One that came as bytes may be ragged, which is a wrong
+/// length whatever the count.
+#[derive(Clone, Copy, Debug)]
+pub struct List<'a, T> {
+    pub numbers: &'a [T],
+    pub ragged: bool,
+}
+
+impl<'a, T> List<'a, T> {
+    pub fn of(numbers: &'a [T]) -> Self {
+        Self {
+            numbers,
+            ragged: false,
+        }
+    }
+
+    fn has(&self, count: usize) -> bool {
+        !self.ragged && self.numbers.len() == count
+    }
+}
+
+/// A list that is written: how many floats it takes.
+#[derive(Clone, Copy, Debug)]
+pub struct Room {
+    pub floats: usize,
+    pub ragged: bool,
+}
+
+impl Room {
+    pub fn of(floats: usize) -> Self {
+        Self {
+            floats,
+            ragged: false,
+        }
+    }
+
+    pub fn of_bytes(bytes: usize) -> Self {
+        Self {
+            floats: bytes / 8,
+            ragged: bytes % 8 != 0,
+        }
+    }
+
+    /// Longer will do, ragged never.
+    fn holds(&self, floats: usize) -> bool {
+        !self.ragged && self.floats >= floats
+    }
+}
+
+/// The u16s of little-endian bytes, in place of what `numbers` held. A part of
+/// a number at the end makes the list ragged.
+pub fn u16s<'a>(bytes: &[u8], numbers: &'a mut Vec<u16>) -> List<'a, u16> {
+    let whole = bytes.chunks_exact(2);
+    let ragged = !whole.remainder().is_empty();
+    numbers.clear();
+    numbers.extend(whole.map(|b| u16::from_le_bytes([b[0], b[1]])));
+    List { numbers, ragged }
+}
+
+/// The same with floats.
+pub fn f64s<'a>(bytes: &[u8], numbers: &'a mut Vec<f64>) -> List<'a, f64> {
+    let whole = bytes.chunks_exact(8);
+    let ragged = !whole.remainder().is_empty();
+    numbers.clear();
+    numbers.extend(whole.map(|b| f64::from_le_bytes(b.try_into().expect("eight bytes"))));
+    List { numbers, ragged }
+}
+
+/// What loading takes. The counts below mean something once refusals 1 and 2
+/// do not apply.
+#[derive(Clone, Copy, Debug)]
+pub struct Sheet<'a> {
+    pub sizes: List<'a, u16>,
+    pub codes: List<'a, u16>,
+    pub floats: List<'a, f64>,
+    pub limits: List<'a, f64>,
+}
+
+impl Sheet<'_> {
+    /// Links of each chain.
+    fn links(&self) -> impl Iterator<Item = usize> + '_ {
+        self.sizes.numbers[1..].iter().map(|&l| usize::from(l))
+    }
+
+    /// Joints of each chain: its links that are not fixed.
+    fn joints(&self) -> impl Iterator<Item = usize> + '_ {
+        let mut codes = self.codes.numbers.iter();
+        self.links()
+            .map(move |l| codes.by_ref().take(l).filter(|&&code| code != 0).count())
+    }
+
+    fn chains(&self) -> usize {
+        self.links().count()
+    }
+
+    fn all_links(&self) -> usize {
+        self.links().sum()
+    }
+
+    fn all_joints(&self) -> usize {
+        self.joints().sum()
+    }
+}
+
+/// NaN is within no range.
+fn within(v: f64, low: f64, high: f64) -> bool {
+    low <= v && v <= high
+}
+
+/// The squares' sum, w first, each step rounded.
+fn is_turn(q: &[f64]) -> bool {
+    let sum = q[0] * q[0] + q[1] * q[1] + q[2] * q[2] + q[3] * q[3];
+    within(sum, 0.999999999, 1.000000001)
+}
+
+/// 1.
+fn wrong_sizes(sizes: List<u16>) -> bool {
+    match sizes.numbers {
+        [] => true,
+        [chains, links @ ..] => {
+            !sizes.has(usize::from(*chains) + 1)
+                || !(1..=4).contains(chains)
+                || links.iter().any(|l| !(1..=16).contains(l))
+        }
+    }
+}
+
+/// 2.
+fn wrong_arrays(sheet: &Sheet) -> bool {
+    let links = sheet.all_links();
+    !sheet.codes.has(links) || !sheet.floats.has(LINK_FLOATS * links)
+}
+
+/// 3.
+fn unlisted(code: u16) -> bool {
+    !matches!(code, 0 | 10..=16 | 20..=26 | 30..=36)
+}
+
+/// 4. The pairs of every chain look at arm 0, hence the last clause.
+fn wrong_joints(sheet: &Sheet) -> bool {
+    let first_links = sheet.links().next().unwrap_or(0);
+    sheet.joints().any(|n| n < 2)
+        || sheet.all_joints() > 16
+        || sheet.joints().skip(1).any(|n| n > first_links)
+}
+
+/// 5. The difference rounds before it is compared.
+fn wrong_limits(sheet: &Sheet) -> bool {
+    let allowed = |lower: f64, upper: f64| {
+        lower == -999.0 && upper == 999.0
+            || within(lower, -100.0, 100.0)
+                && within(upper, -100.0, 100.0)
+                && upper - lower >= 0.001
+    };
+    !sheet.limits.has(2 * sheet.all_joints())
+        || !sheet
+            .limits
+            .numbers
+            .chunks_exact(2)
+            .all(|pair| allowed(pair[0], pair[1]))
+}
+
+/// 6.
+fn wrong_link(link: &[f64]) -> bool {
+    !link[..3].iter().all(|&v| within(v, -10.0, 10.0)) || !is_turn(&link[3..])
+}
+
+/// 7, for a block of joints or several blocks in one list.
+fn wrong_block(block: List<f64>, count: usize) -> bool {
+    !block.has(count) || !block.numbers.iter().all(|&v| within(v, -8.0, 8.0))
+}
+
+/// 8.
+fn wrong_goals(goals: List<f64>, chains: usize) -> bool {
+    let wrong = |goal: &[f64]| {
+        !goal[..3].iter().all(|&v| within(v, -100.0, 100.0))
+            || !is_turn(&goal[3..7])
+            || !goal[7..].iter().all(|&v| within(v, -100.0, 100.0))
+    };
+    !goals.has(GOAL_FLOATS * chains) || goals.numbers.chunks_exact(GOAL_FLOATS).any(wrong)
+}
+
+pub fn load(sheet: &Sheet) -> u32 {
+    if wrong_sizes(sheet.sizes) {
+        1
+    } else if wrong_arrays(sheet) {
+        2
+    } else if sheet.codes.numbers.iter().any(|&code| unlisted(code)) {
+        3
+    } else if wrong_joints(sheet) {
+        4
+    } else if wrong_limits(sheet) {
+        5
+    } else if sheet
+        .floats
+        .numbers
+        .chunks_exact(LINK_FLOATS)
+        .any(wrong_link)
+    {
+        6
+    } else {
+        ACCEPTED
+    }
+}
+
+pub fn set_goals(sheet: &Sheet, goals: List<f64>) -> u32 {
+    match load(sheet) {
+        ACCEPTED if wrong_goals(goals, sheet.chains()) => 8,
+        answer => answer,
+    }
+}
+
+/// A call on one block of joints; `fits` says whether its outputs are long
+/// enough.
+fn on_joints(sheet: &Sheet, joints: List<f64>, fits: impl FnOnce() -> bool) -> u32 {
+    match load(sheet) {
+        ACCEPTED if wrong_block(joints, sheet.all_joints()) => 7,
+        ACCEPTED if !fits() => 9,
+        answer => answer,
+    }
+}
+
+/// L links give L + 1 positions and L + 2 rotations.
+pub fn frames(sheet: &Sheet, joints: List<f64>, positions: Room, rotations: Room) -> u32 {
+    on_joints(sheet, joints, || {
+        let (links, chains) = (sheet.all_links(), sheet.chains());
+        positions.holds(3 * (links + chains)) && rotations.holds(4 * (links + 2 * chains))
+    })
+}
+
+pub fn pose(sheet: &Sheet, joints: List<f64>, ends: Room) -> u32 {
+    on_joints(sheet, joints, || ends.holds(END_FLOATS * sheet.chains()))
+}
+
+pub fn manipulability(sheet: &Sheet, joints: List<f64>, value: Room) -> u32 {
+    on_joints(sheet, joints, || value.holds(1))
+}
+
+pub fn reset(sheet: &Sheet, joints: List<f64>, history: Room, ends: Room) -> u32 {
+    on_joints(sheet, joints, || {
+        history.holds(BLOCKS * sheet.all_joints()) && ends.holds(END_FLOATS * sheet.chains())
+    })
+}
+
+pub fn update(sheet: &Sheet, history: List<f64>, joints: List<f64>, renewed: Room) -> u32 {
+    match load(sheet) {
+        ACCEPTED if wrong_block(history, BLOCKS * sheet.all_joints()) => 7,
+        ACCEPTED => on_joints(sheet, joints, || renewed.holds(BLOCKS * sheet.all_joints())),
+        answer => answer,
+    }
+}

@@ -1,0 +1,304 @@
+//! Document 01's refusals at their edges, and in their order.
+
+use reference::refusals::*;
+
+const UP: [f64; 7] = [0.0, 0.0, 1.0, 1.0, 0.0, 0.0, 0.0];
+
+/// Lists that nothing is wrong with, to be spoilt in a place or two.
+struct Lists {
+    sizes: Vec<u16>,
+    codes: Vec<u16>,
+    floats: Vec<f64>,
+    limits: Vec<f64>,
+    joints: Vec<f64>,
+}
+
+/// Chains given by their codes.
+fn chains(codes: &[&[u16]]) -> Lists {
+    let mut sizes = vec![codes.len() as u16];
+    sizes.extend(codes.iter().map(|chain| chain.len() as u16));
+    let codes = codes.concat();
+    let joints = codes.iter().filter(|&&code| code != 0).count();
+    Lists {
+        sizes,
+        floats: UP.repeat(codes.len()),
+        limits: [-3.0, 3.0].repeat(joints),
+        joints: vec![0.5; joints],
+        codes,
+    }
+}
+
+impl Lists {
+    fn sheet(&self) -> Sheet<'_> {
+        Sheet {
+            sizes: List::of(&self.sizes),
+            codes: List::of(&self.codes),
+            floats: List::of(&self.floats),
+            limits: List::of(&self.limits),
+        }
+    }
+
+    fn load(&self) -> u32 {
+        load(&self.sheet())
+    }
+
+    fn manipulability(&self) -> u32 {
+        manipulability(&self.sheet(), List::of(&self.joints), Room::of(1))
+    }
+}
+
+fn with_limits(lower: f64, upper: f64) -> u32 {
+    let mut lists = chains(&[&[13, 12]]);
+    lists.limits[2..].copy_from_slice(&[lower, upper]);
+    lists.load()
+}
+
+fn with_link(link: [f64; 7]) -> u32 {
+    let mut lists = chains(&[&[13, 12]]);
+    lists.floats[7..].copy_from_slice(&link);
+    lists.load()
+}
+
+#[test]
+fn joint_8_is_taken_and_the_next_float_refused() {
+    for (value, answer) in [
+        (8.0, 0),
+        (-8.0, 0),
+        (8.0f64.next_up(), 7),
+        ((-8.0f64).next_down(), 7),
+        (f64::NAN, 7),
+        (-0.0, 0),
+    ] {
+        let mut lists = chains(&[&[13, 12]]);
+        lists.joints[1] = value;
+        assert_eq!(lists.manipulability(), answer, "{value:e}");
+    }
+}
+
+#[test]
+fn one_joint_is_refused_and_two_are_taken() {
+    assert_eq!(chains(&[&[13]]).load(), 4);
+    assert_eq!(chains(&[&[0, 13, 0]]).load(), 4);
+    assert_eq!(chains(&[&[0, 0]]).load(), 4);
+    assert_eq!(chains(&[&[13, 13]]).load(), 0);
+    assert_eq!(chains(&[&[13, 13], &[0, 13]]).load(), 4);
+    assert_eq!(chains(&[&[13, 13], &[13, 13]]).load(), 0);
+}
+
+#[test]
+fn sixteen_joints_are_taken_and_seventeen_refused() {
+    assert_eq!(chains(&[&[13; 16]]).load(), 0);
+    assert_eq!(chains(&[&[13; 8], &[13; 8]]).load(), 0);
+    assert_eq!(chains(&[&[13; 9], &[13; 8]]).load(), 4);
+}
+
+#[test]
+fn a_later_chain_has_at_most_as_many_joints_as_chain_0_has_links() {
+    assert_eq!(chains(&[&[13, 13], &[13, 13, 13]]).load(), 4);
+    assert_eq!(chains(&[&[13, 0, 13], &[13, 13, 13]]).load(), 0);
+    assert_eq!(chains(&[&[13, 13], &[13, 0, 13]]).load(), 0);
+}
+
+#[test]
+fn a_difference_of_limits_is_rounded() {
+    assert_eq!(with_limits(5.0, 5.001), 0);
+    assert_eq!(with_limits(1.0, 1.001), 5);
+    assert_eq!(with_limits(0.0, 0.001), 0);
+    assert_eq!(with_limits(0.0, 0.001f64.next_down()), 5);
+    // The exact difference is below 0.001 and rounds to it.
+    assert_eq!(with_limits(1e-30, 0.001), 0);
+}
+
+#[test]
+fn limits_are_free_or_within_100() {
+    assert_eq!(with_limits(-999.0, 999.0), 0);
+    assert_eq!(with_limits(-100.0, 100.0), 0);
+    for (lower, upper) in [
+        (-999.0, 100.0),
+        (-100.0, 999.0),
+        (-999.0, 999.0f64.next_up()),
+        ((-999.0f64).next_up(), 999.0),
+        (999.0, -999.0),
+        ((-100.0f64).next_down(), 100.0),
+        (-100.0, 100.0f64.next_up()),
+        (100.0, -100.0),
+        (f64::NAN, 1.0),
+        (0.0, f64::NAN),
+    ] {
+        assert_eq!(with_limits(lower, upper), 5, "{lower:e}, {upper:e}");
+    }
+}
+
+#[test]
+fn displacements_and_offsets() {
+    for at in 0..3 {
+        for (value, answer) in [
+            (10.0, 0),
+            (-10.0, 0),
+            (10.0f64.next_up(), 6),
+            ((-10.0f64).next_down(), 6),
+            (f64::NAN, 6),
+        ] {
+            let mut link = UP;
+            link[at] = value;
+            assert_eq!(with_link(link), answer, "{value:e} at {at}");
+        }
+    }
+    assert_eq!(with_link([0.0, 0.0, 0.0, -1.0, 0.0, -0.0, 0.0]), 0);
+    assert_eq!(with_link([0.0; 7]), 6);
+    assert_eq!(with_link([0.0, 0.0, 0.0, 1.0, 0.0, 0.0, f64::NAN]), 6);
+    // The squares' sum ends just inside and just outside of the tolerance.
+    for (mut w, inside, step) in [
+        (
+            1.000000001f64.sqrt() - 1e-15,
+            1.000000001,
+            f64::next_up as fn(f64) -> f64,
+        ),
+        (
+            0.999999999f64.sqrt() + 1e-15,
+            0.999999999,
+            f64::next_down as fn(f64) -> f64,
+        ),
+    ] {
+        let within = |w: f64| (w * w - 1.0).abs() <= (inside - 1.0f64).abs();
+        assert!(within(w));
+        while within(w) {
+            assert_eq!(with_link([0.0, 0.0, 0.0, w, 0.0, 0.0, 0.0]), 0);
+            w = step(w);
+        }
+        assert_eq!(with_link([0.0, 0.0, 0.0, w, 0.0, 0.0, 0.0]), 6);
+    }
+}
+
+#[test]
+fn sizes_and_arrays() {
+    let good = || chains(&[&[13, 12, 0], &[13, 12]]);
+    assert_eq!(good().load(), 0);
+    for sizes in [
+        &[][..],
+        &[0],
+        &[2, 3],
+        &[2, 3, 2, 1],
+        &[5, 1, 1, 1, 1, 1],
+        &[2, 5, 0],
+        &[1, 17],
+    ] {
+        let mut lists = good();
+        lists.sizes = sizes.to_vec();
+        assert_eq!(lists.load(), 1, "{sizes:?}");
+    }
+    let mut lists = good();
+    lists.codes.push(13);
+    assert_eq!(lists.load(), 2);
+    lists = good();
+    lists.floats.pop();
+    assert_eq!(lists.load(), 2);
+}
+
+#[test]
+fn every_code() {
+    for code in 0..=u16::MAX {
+        let listed = code == 0 || [10, 20, 30].iter().any(|k| (*k..k + 7).contains(&code));
+        let lists = chains(&[&[code, 13, 13]]);
+        assert_eq!(lists.load(), if listed { 0 } else { 3 }, "code {code}");
+    }
+}
+
+#[test]
+fn goals() {
+    let lists = chains(&[&[13, 12], &[13, 12]]);
+    let goal = [
+        100.0, -100.0, 0.0, 1.0, 0.0, 0.0, 0.0, 0.0, 100.0, -100.0, 0.0, 0.0, 3.2,
+    ];
+    let mut goals = [goal, goal].concat();
+    assert_eq!(set_goals(&lists.sheet(), List::of(&goals)), 0);
+    assert_eq!(set_goals(&lists.sheet(), List::of(&goals[1..])), 8);
+    for (at, value) in [(13, 100.0f64.next_up()), (25, f64::NAN), (16, 1.1)] {
+        let kept = std::mem::replace(&mut goals[at], value);
+        assert_eq!(set_goals(&lists.sheet(), List::of(&goals)), 8, "place {at}");
+        goals[at] = kept;
+    }
+}
+
+#[test]
+fn outputs_may_be_longer_but_not_shorter_or_ragged() {
+    let lists = chains(&[&[13, 12, 0], &[13, 12]]);
+    let (sheet, joints) = (lists.sheet(), List::of(&lists.joints[..]));
+    let answer = |p: usize, r: usize| frames(&sheet, joints, Room::of(p), Room::of(r));
+    assert_eq!(answer(21, 36), 0);
+    assert_eq!(answer(22, 37), 0);
+    assert_eq!(answer(20, 36), 9);
+    assert_eq!(answer(21, 35), 9);
+    assert_eq!(pose(&sheet, joints, Room::of_bytes(14 * 8)), 0);
+    assert_eq!(pose(&sheet, joints, Room::of_bytes(14 * 8 + 1)), 9);
+    assert_eq!(pose(&sheet, joints, Room::of_bytes(14 * 8 - 1)), 9);
+    assert_eq!(reset(&sheet, joints, Room::of(16), Room::of(14)), 0);
+    assert_eq!(reset(&sheet, joints, Room::of(15), Room::of(14)), 9);
+    assert_eq!(reset(&sheet, joints, Room::of(16), Room::of(13)), 9);
+    let history = [0.0; 16];
+    let answer = |h: usize, r: usize| update(&sheet, List::of(&history[..h]), joints, Room::of(r));
+    assert_eq!(answer(16, 16), 0);
+    assert_eq!(answer(15, 16), 7);
+    assert_eq!(answer(16, 15), 9);
+}
+
+#[test]
+fn a_ragged_list_is_too_long_or_too_short() {
+    let (mut codes, mut floats) = (Vec::new(), Vec::new());
+    assert!(!u16s(&[13, 0, 1, 2], &mut codes).ragged);
+    assert_eq!(codes, [13, 513]);
+    assert!(u16s(&[13, 0, 1], &mut codes).ragged);
+    assert!(u16s(&[13], &mut codes).ragged);
+    assert!(!u16s(&[], &mut codes).ragged);
+    assert!(!f64s(&1.5f64.to_le_bytes(), &mut floats).ragged);
+    assert_eq!(floats, [1.5]);
+    assert!(f64s(&1.5f64.to_le_bytes()[1..], &mut floats).ragged);
+
+    // As many numbers as there should be, and a byte besides.
+    let lists = chains(&[&[13, 12]]);
+    let mut sheet = lists.sheet();
+    sheet.limits.ragged = true;
+    assert_eq!(load(&sheet), 5);
+    sheet.floats.ragged = true;
+    assert_eq!(load(&sheet), 2);
+    sheet.sizes.ragged = true;
+    assert_eq!(load(&sheet), 1);
+}
+
+/// Everything wrong at once; then the faults are mended one by one.
+#[test]
+fn the_lowest_number_wins() {
+    let good = chains(&[&[13, 12], &[13, 12]]);
+    let mut lists = chains(&[&[13, 12], &[13, 12]]);
+    let (no_joints, history) = ([f64::NAN; 3], [0.0; 16]);
+    lists.sizes.push(2);
+    lists.codes = vec![37, 0, 13, 12];
+    lists.floats[0] = 11.0;
+    lists.floats.pop();
+    lists.limits[0] = f64::NAN;
+    let answer = |lists: &Lists, joints: &[f64]| {
+        let by_reset = reset(&lists.sheet(), List::of(joints), Room::of(0), Room::of(0));
+        let by_update = update(
+            &lists.sheet(),
+            List::of(&history),
+            List::of(joints),
+            Room::of(0),
+        );
+        assert_eq!(by_reset, by_update);
+        by_reset
+    };
+    assert_eq!(answer(&lists, &no_joints), 1);
+    lists.sizes = good.sizes.clone();
+    assert_eq!(answer(&lists, &no_joints), 2);
+    lists.floats.push(0.0);
+    assert_eq!(answer(&lists, &no_joints), 3);
+    lists.codes = vec![13, 0, 13, 12];
+    assert_eq!(answer(&lists, &no_joints), 4);
+    lists.codes = good.codes.clone();
+    assert_eq!(answer(&lists, &no_joints), 5);
+    lists.limits = good.limits.clone();
+    assert_eq!(answer(&lists, &no_joints), 6);
+    lists.floats = good.floats.clone();
+    assert_eq!(answer(&lists, &no_joints), 7);
+    assert_eq!(answer(&lists, &good.joints), 9);
+}
