@@ -1,2 +1,3 @@
 // What each call answers on lists that are lent, once the arms are known to be good.
 pub mod frames;
+pub mod measure;

@@ -1,3 +1,5 @@
+pub mod ArmCalls
 pub mod Bytes
+pub mod Lent
 pub mod Matrices
 pub mod Parts

@@ -13,7 +13,7 @@ fn wide(x: u8) -> u64
 }
 
 // Two bytes, the lower first.
-fn pair_at(b: &[u8], at: usize) -> u64
+pub(crate) fn pair_at(b: &[u8], at: usize) -> u64
     requires { ⌜ at + 2 ≤ length (now b) ⌝ }
     ensures { λ r. ⌜ (r ≡ pairAt (now (b .entry)) at) × (r < 65536) ⌝ }
 {
@@ -45,7 +45,7 @@ fn float_of(n: u64) -> f64
 }
 
 // Float i of a byte list, a NaN where the list ends before it.
-fn float_at(b: &[u8], i: usize) -> f64
+pub(crate) fn float_at(b: &[u8], i: usize) -> f64
     requires { ⌜ i ≤ 65535 ⌝ }
     ensures { λ r. ⌜ r ≡ floatAt (now (b .entry)) i ⌝ }
 {

@@ -15,6 +15,9 @@ use Rattle.sheet.specs.Chain.{total, joints}
 use Rattle.spacetime.specs.Walk.{poseOf}
 use Rattle.refusals.specs.Refusal.{shapeRefusal, blockRefusal, goalsRefusal}
 use Rattle.calls.specs.Arms.{Accepted, arms-passed}
+use Rattle.calls.specs.declared.measure.Answer.{Answer}
+use Rattle.calls.specs.declared.measure.Answer.the-variants.{Refused}
+use Rattle.calls.specs.Manipulability.{answerIf, manipulabilityAnswer}
 use Rattle.calls.specs.Frames.{framesRefusal, poseRefusal, pose-room}
 use Rattle.relaxed_ik.specs.State.{sizesUsed, linksUsed, codesUsed, floatsUsed, haveSheet, countsOf, counts-loaded, counts-are, Stored, stored}
 use Rattle.relaxed_ik.specs.declared.state.Counts.{Counts}
@@ -40,6 +43,10 @@ goalsNumber ss cs goals = ifArms ss cs (goalsRefusal (getD ss 0 0) goals)
 -- 20, then 22, then 7
 unfoldable pub updateNumber : List ℕ → List ℕ → Bool → List Float → ℕ
 updateNumber ss cs started x = ifArms ss cs (cond started (blockRefusal (joints (codesUsed ss cs)) x) 22)
+
+-- 20, then 7, else the value
+unfoldable pub manipulabilityKept : List ℕ → List ℕ → List Float → List Float → Answer
+manipulabilityKept ss cs gs x = answerIf (haveSheet ss cs) (manipulabilityAnswer (linksUsed ss) (codesUsed ss cs) (floatsUsed ss gs) x) (Refused 20)
 
 -- the poses of the stored sheet's walk
 unfoldable pub keptPose : List ℕ → List ℕ → List Float → List Float → ℕ → Pose

@@ -1,12 +1,14 @@
 // Calls that ask the arms alone.
 use crate::kept;
 use crate::state::State;
+use calls::measure::Answer;
 ghost use mathlib.Core.Path.{_≡_};
 ghost use lib.ListN.{length};
 ghost use Rattle.lists.specs.Splice.{splice};
 ghost use Rattle.spacetime.specs.Frames.{positionsOf, rotationsOf, endsOf};
 ghost use Rattle.calls.specs.Arms.{ifTaken};
 ghost use Rattle.relaxed_ik.specs.State.{linksUsed};
+ghost use Rattle.relaxed_ik.specs.Kept.{manipulabilityKept};
 ghost use Rattle.relaxed_ik.specs.Arms.{posesOf, framesNumberOf, poseNumberOf};
 
 // The frames after each link: positions by 3 and rotations by 4, chain after chain.
@@ -35,4 +37,15 @@ pub fn pose(state: State, joints: &[f64], ends: &mut [f64]) -> u16
     let codes = arms.codes;
     let floats = arms.floats;
     kept::pose_on(&sizes, &codes, &floats, joints, ends)
+}
+
+// The arm's manipulability, summed over its chains.
+pub fn manipulability(state: State, joints: &[f64]) -> Answer
+    ensures { λ r. ⌜ r ≡ manipulabilityKept (state .arms .sizes) (state .arms .codes) (state .arms .floats) (now (joints .entry)) ⌝ }
+{
+    let arms = state.arms;
+    let sizes = arms.sizes;
+    let codes = arms.codes;
+    let floats = arms.floats;
+    kept::manipulability_on(&sizes, &codes, &floats, joints)
 }

@@ -1,6 +1,8 @@
 // The calls on the stored sheet's lists, zeros behind them: 20 where there are no arms.
 use crate::state;
 use calls::frames;
+use calls::measure;
+use calls::measure::Answer;
 use refusals::lent;
 use sheet::chain;
 ghost use mathlib.Core.Path.{_≡_};
@@ -9,7 +11,7 @@ ghost use Rattle.lists.specs.Splice.{splice};
 ghost use Rattle.spacetime.specs.Frames.{positionsOf, rotationsOf, endsOf};
 ghost use Rattle.calls.specs.Arms.{ifTaken};
 ghost use Rattle.relaxed_ik.specs.State.{linksUsed};
-ghost use Rattle.relaxed_ik.specs.Kept.{framesNumber, poseNumber, blockNumber, goalsNumber, updateNumber, keptPose};
+ghost use Rattle.relaxed_ik.specs.Kept.{framesNumber, poseNumber, blockNumber, goalsNumber, updateNumber, manipulabilityKept, keptPose};
 
 pub fn frames_on(
     sizes: &[u16],
@@ -106,4 +108,18 @@ pub fn update_on(sizes: &[u16], codes: &[u16], started: bool, joints: &[f64]) ->
         return 22;
     }
     block_on(sizes, codes, joints)
+}
+
+pub fn manipulability_on(sizes: &[u16], codes: &[u16], floats: &[f64], joints: &[f64]) -> Answer
+    requires { ⌜ (length (now sizes) ≡ 5) × (length (now codes) ≡ 64) × (length (now floats) ≡ 448) ⌝ }
+    ensures { λ r. ⌜ r ≡ manipulabilityKept (now (sizes .entry)) (now (codes .entry)) (now (floats .entry)) (now (joints .entry)) ⌝ }
+{
+    let n = state::in_use(sizes, codes);
+    if !n.loaded {
+        return Answer::Refused(20);
+    }
+    let end = n.chains + 1;
+    let links = n.links;
+    let wide = 7 * links;
+    measure::manipulability(&sizes[1..end], &codes[..links], &floats[..wide], joints)
 }

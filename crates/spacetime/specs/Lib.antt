@@ -2,3 +2,4 @@ pub mod Link
 pub mod Floats
 pub mod Walk
 pub mod Frames
+pub mod Apart

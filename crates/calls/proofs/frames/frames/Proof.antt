@@ -1,17 +1,14 @@
 -- `frames` meets its contract: a refusal writes nothing; else the lists are made of the walk's poses. Assumes nothing.
 use mathlib.Core.Path.{_≡_, refl, sym, ap, _∙_}
-use mathlib.Core.List.{List}
-use Prim.Native.Nat.{ℕ, _+_, _*_, _≤_, _<_}
+use Prim.Native.Nat.{_+_, _*_, _≤_}
 use native.Mathlib.Omega.{arith}
 use denote.Ref.{now}
-use lib.Ieee.{Float}
 use lib.ListN.{length}
 use Rattle.lists.specs.Splice.{splice}
-use Rattle.sheet.specs.Chain.{total, joints}
-use Rattle.spacetime.specs.Walk.{poseOf, listPose, frames-pose}
+use Rattle.sheet.specs.Chain.{joints}
 use Rattle.spacetime.specs.Frames.{positions-ext, rotations-ext}
 use Rattle.refusals.specs.Refusal.{blockRefusal}
-use Rattle.calls.specs.Arms.{sheet-of, taken, refused}
+use Rattle.calls.specs.Arms.{sheet-of, walked, taken, refused}
 use Rattle.calls.specs.Frames.{framesRefusal, frames-passed}
 use borrow.Author.Needs.{needs}
 use Rattle.calls.proofs.frames.frames.Statement.{statement}
@@ -28,17 +25,9 @@ passed : (c : tie.Else1) → (blockRefusal (joints (now (S c .args .codes))) (no
     × (4 * (length (now (S c .args .codes)) + 2 * length (now (S c .args .sizes))) ≤ length (now (S c .args .rotations)))
 passed c = frames-passed _ _ _ _ _ (number c)
 
--- the list of poses has its length, and holds the walk's poses
+-- the list of poses keeps its length
 held : (c : tie.After-get-frames-immutable) → length (c .get-frames-immutable .last .1 .1 .1 .1 .0) ≡ 448
 held c = c .get-frames-immutable .kept .1 .1 .1 .1 .0
-
-walked : (c : tie.After-get-frames-immutable) → (l : ℕ) → l < total (now (S (c .before .before) .args .sizes))
-    → listPose (c .get-frames-immutable .last .1 .1 .1 .1 .0) l
-    ≡ poseOf (now (S (c .before .before) .args .sizes)) (now (S (c .before .before) .args .codes)) (now (S (c .before .before) .args .geo)) (now (S (c .before .before) .args .block)) l
-walked c l h =
-    let s = S (c .before .before) in
-    ap (λ (r : List Float). listPose r l) (c .get-frames-immutable .ensures)
-    ∙ frames-pose (now (s .args .sizes)) (now (s .args .codes)) (now (s .args .geo)) (now (s .args .block)) _ l (omega (arith, s .pre)) (omega (arith, s .pre))
 
 frames-refusal-requires : tie.Need-frames-refusal-requires
 frames-refusal-requires c κs = search needs
@@ -86,11 +75,12 @@ returns-2 c =
     let e = g .before .before in
     let s = S e in
     let a = s .args in
-    let ns = now (a .sizes) in (
+    let ns = now (a .sizes) in
+    let w = walked ns (now (a .codes)) (now (a .geo)) (now (a .block)) _ _ (s .pre) (omega arith) (g .get-frames-immutable .ensures) in (
       sym (number e),
       (
-        c .before .before .before .before .before .before .before .put-positions .ensures ∙ ap (splice (now (a .positions)) 0) (positions-ext ns _ _ (walked g)) ∙ sym (taken 0 _ _ refl),
-        c .before .before .put-rotations .ensures ∙ ap (splice (now (a .rotations)) 0) (rotations-ext ns _ _ (walked g) (s .pre .chains)) ∙ sym (taken 0 _ _ refl),
+        c .before .before .before .before .before .before .before .put-positions .ensures ∙ ap (splice (now (a .positions)) 0) (positions-ext ns _ _ w) ∙ sym (taken 0 _ _ refl),
+        c .before .before .put-rotations .ensures ∙ ap (splice (now (a .rotations)) 0) (rotations-ext ns _ _ w (s .pre .chains)) ∙ sym (taken 0 _ _ refl),
       ),
     )
 

@@ -1,17 +1,14 @@
 -- `pose` meets its contract: a refusal writes nothing; else the list is made of the walk's poses. Assumes nothing.
 use mathlib.Core.Path.{_≡_, refl, sym, ap, _∙_}
-use mathlib.Core.List.{List}
-use Prim.Native.Nat.{ℕ, _*_, _≤_, _<_}
+use Prim.Native.Nat.{_*_, _≤_}
 use native.Mathlib.Omega.{arith}
 use denote.Ref.{now}
-use lib.Ieee.{Float}
 use lib.ListN.{length}
 use Rattle.lists.specs.Splice.{splice}
-use Rattle.sheet.specs.Chain.{total, joints}
-use Rattle.spacetime.specs.Walk.{poseOf, listPose, frames-pose}
+use Rattle.sheet.specs.Chain.{joints}
 use Rattle.spacetime.specs.Frames.{ends-ext}
 use Rattle.refusals.specs.Refusal.{blockRefusal}
-use Rattle.calls.specs.Arms.{sheet-of, taken, refused}
+use Rattle.calls.specs.Arms.{sheet-of, walked, taken, refused}
 use Rattle.calls.specs.Frames.{poseRefusal, pose-passed}
 use borrow.Author.Needs.{needs}
 use Rattle.calls.proofs.frames.pose.Statement.{statement}
@@ -26,17 +23,9 @@ number c = sym (c .before .pose-refusal .ensures) ∙ c .if1 .left
 passed : (c : tie.Else1) → (blockRefusal (joints (now (S c .args .codes))) (now (S c .args .block)) ≡ 0) × (7 * length (now (S c .args .sizes)) ≤ length (now (S c .args .ends)))
 passed c = pose-passed _ _ _ _ (number c)
 
--- the list of poses has its length, and holds the walk's poses
+-- the list of poses keeps its length
 held : (c : tie.After-get-frames-immutable) → length (c .get-frames-immutable .last .1 .1 .1 .1 .0) ≡ 448
 held c = c .get-frames-immutable .kept .1 .1 .1 .1 .0
-
-walked : (c : tie.After-get-frames-immutable) → (l : ℕ) → l < total (now (S (c .before .before) .args .sizes))
-    → listPose (c .get-frames-immutable .last .1 .1 .1 .1 .0) l
-    ≡ poseOf (now (S (c .before .before) .args .sizes)) (now (S (c .before .before) .args .codes)) (now (S (c .before .before) .args .geo)) (now (S (c .before .before) .args .block)) l
-walked c l h =
-    let s = S (c .before .before) in
-    ap (λ (r : List Float). listPose r l) (c .get-frames-immutable .ensures)
-    ∙ frames-pose (now (s .args .sizes)) (now (s .args .codes)) (now (s .args .geo)) (now (s .args .block)) _ l (omega (arith, s .pre)) (omega (arith, s .pre))
 
 pose-refusal-requires : tie.Need-pose-refusal-requires
 pose-refusal-requires c κs = search needs
@@ -69,7 +58,7 @@ returns-2 c =
     let g = c .before .before .before .before .before .before in
     let s = S (g .before .before) in (
       sym (number (g .before .before)),
-      c .before .before .put-ends .ensures ∙ ap (splice (now (s .args .ends)) 0) (ends-ext (now (s .args .sizes)) _ _ (walked g) (s .pre .chains)) ∙ sym (taken 0 _ _ refl),
+      c .before .before .put-ends .ensures ∙ ap (splice (now (s .args .ends)) 0) (ends-ext (now (s .args .sizes)) _ _ (walked _ _ _ _ _ _ (s .pre) (omega arith) (g .get-frames-immutable .ensures)) (s .pre .chains)) ∙ sym (taken 0 _ _ refl),
     )
 
 pub pose-spec : {M : Type 1} → statement M

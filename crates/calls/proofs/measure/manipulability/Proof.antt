@@ -1,0 +1,94 @@
+-- `manipulability` meets its contract: a bad block is refused; else the view is that of the walk's poses. Assumes nothing.
+use mathlib.Core.Path.{_≡_, sym, ap, _∙_}
+use Prim.Native.Nat.{ℕ}
+use native.Mathlib.Omega.{arith}
+use denote.Ref.{now}
+use lib.ListN.{length}
+use Rattle.sheet.specs.Chain.{joints, joint-last}
+use Rattle.manipulability.specs.View.{view-list}
+use Rattle.manipulability.specs.Jacobian.{manipulability-ext}
+use Rattle.refusals.specs.Refusal.{blockRefusal}
+use Rattle.calls.specs.Arms.{sheet-of, walked}
+use Rattle.calls.specs.Manipulability.{answer-refused, answer-value}
+use borrow.Author.Needs.{needs}
+use Rattle.calls.proofs.measure.manipulability.Statement.{statement}
+use Rattle.calls.proofs.measure.manipulability.Tie as tie
+
+abbrev S : tie.After-block-refusal → tie.Start
+S c = c .before .before .before .before .before .before
+
+number : (c : tie.After-block-refusal) → c .block-refusal .result ≡ blockRefusal (joints (now (S c .args .codes))) (now (S c .args .block))
+number c =
+    c .block-refusal .ensures
+    ∙ ap (λ (n : ℕ). blockRefusal n (now (S c .args .block))) (c .before .joint-number .ensures ∙ joint-last (now (S c .args .codes)))
+
+passed : (c : tie.Else1) → blockRefusal (joints (now (S (c .before) .args .codes))) (now (S (c .before) .args .block)) ≡ 0
+passed c = sym (number (c .before)) ∙ c .if1 .left
+
+-- the list of poses keeps its length
+held : (c : tie.After-get-frames-immutable) → length (c .get-frames-immutable .last .1 .1 .1 .1 .0) ≡ 448
+held c = c .get-frames-immutable .kept .1 .1 .1 .1 .0
+
+joint-number-requires : tie.Need-joint-number-requires
+joint-number-requires c κs = search needs
+
+block-refusal-requires : tie.Need-block-refusal-requires
+block-refusal-requires c κs = search needs
+
+returns : tie.Need-returns
+returns c =
+    let a = S (c .before) .args in
+    answer-refused (now (a .sizes)) (now (a .codes)) (now (a .geo)) (now (a .block)) (c .before .block-refusal .result) (number (c .before)) (c .if1 .taken)
+
+slice-aggregate-get-frames-immutable : tie.Need-slice-aggregate-get-frames-immutable
+slice-aggregate-get-frames-immutable c = search needs
+
+get-frames-immutable-requires : tie.Need-get-frames-immutable-requires
+get-frames-immutable-requires c κs =
+    let s = S (c .before .before) in
+    (sheet-of _ _ _ _ (s .pre) (passed (c .before)), omega (arith, s .pre))
+
+slice-aggregate-get-manipulability-immutable :
+    tie.Need-slice-aggregate-get-manipulability-immutable
+slice-aggregate-get-manipulability-immutable c = search needs
+
+sub-get-manipulability-immutable : tie.Need-sub-get-manipulability-immutable
+sub-get-manipulability-immutable c = search needs
+
+part-get-manipulability-immutable-start : tie.Need-part-get-manipulability-immutable-start
+part-get-manipulability-immutable-start c = search needs
+
+part-get-manipulability-immutable-end : tie.Need-part-get-manipulability-immutable-end
+part-get-manipulability-immutable-end c = search needs
+
+get-manipulability-immutable-requires : tie.Need-get-manipulability-immutable-requires
+get-manipulability-immutable-requires c κs =
+    let g = c .before .before .before in
+    let s = S (g .before .before .before) in
+    (record { whole = s .pre .whole; few = s .pre .few }, record { first = omega (arith, s .pre, held g); again = omega arith })
+
+returns-2 : tie.Need-returns-2
+returns-2 c =
+    let g = c .before .before .before .before in
+    let s = S (g .before .before .before) in
+    let a = s .args in
+    let ns = now (a .sizes) in
+    let w = walked ns (now (a .codes)) (now (a .geo)) (now (a .block)) _ _ (s .pre) (omega arith) (g .get-frames-immutable .ensures) in
+    answer-value ns (now (a .codes)) (now (a .geo)) (now (a .block)) (c .get-manipulability-immutable .result) (passed (g .before .before))
+    (c .get-manipulability-immutable .ensures ∙ manipulability-ext _ _ ns (now (a .codes)) (λ l h. view-list _ _ l ∙ w l h))
+
+pub manipulability-spec : {M : Type 1} → statement M
+manipulability-spec =
+    tie.close
+    (tie.spec
+    joint-number-requires
+    block-refusal-requires
+    returns
+    slice-aggregate-get-frames-immutable
+    get-frames-immutable-requires
+    slice-aggregate-get-manipulability-immutable
+    sub-get-manipulability-immutable
+    part-get-manipulability-immutable-start
+    part-get-manipulability-immutable-end
+    get-manipulability-immutable-requires
+    returns-2)

@@ -1,0 +1,50 @@
+-- `turns` meets its contract: each kind by its arm. Assumes nothing.
+use Rattle.manipulability.specs.Jacobian.{turnsAt}
+use borrow.Author.Needs.{needs}
+use Rattle.manipulability.proofs.jacobian.turns.Statement.{statement}
+use Rattle.manipulability.proofs.jacobian.turns.Tie as tie
+
+kind-at-requires : tie.Need-kind-at-requires
+kind-at-requires c κs = search needs
+
+enum-told : tie.Need-enum-told
+enum-told c = search needs
+
+enum-told-2 : tie.Need-enum-told-2
+enum-told-2 c = search needs
+
+enum-told-3 : tie.Need-enum-told-3
+enum-told-3 c = search needs
+
+enum-told-4 : tie.Need-enum-told-4
+enum-told-4 c = search needs
+
+returns : tie.Need-returns
+unfolding turnsAt
+returns c = rw (← c .before .before .kind-at .ensures, c .enum-told .given .1)
+
+returns-2 : tie.Need-returns-2
+unfolding turnsAt
+returns-2 c = rw (← c .before .before .kind-at .ensures, c .enum-told2 .given .1)
+
+returns-3 : tie.Need-returns-3
+unfolding turnsAt
+returns-3 c = rw (← c .before .before .kind-at .ensures, c .enum-told3 .given .1)
+
+returns-4 : tie.Need-returns-4
+unfolding turnsAt
+returns-4 c = rw (← c .before .before .kind-at .ensures, c .enum-told4 .given .1)
+
+pub turns-spec : {M : Type 1} → statement M
+turns-spec =
+    tie.close
+    (tie.spec
+    kind-at-requires
+    enum-told
+    enum-told-2
+    enum-told-3
+    enum-told-4
+    returns
+    returns-2
+    returns-3
+    returns-4)

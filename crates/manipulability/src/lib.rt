@@ -1,0 +1,4 @@
+// The Jacobian of a chain and the manipulability of an arm, of poses read through a view.
+pub mod jacobian;
+pub mod robot;
+pub mod view;

@@ -1,0 +1,76 @@
+-- `manipulability_on` meets its contract: the parts in use are an accepted sheet's. Assumes nothing.
+use mathlib.Core.Path.{_≡_, sym, _∙_}
+use Prim.Native.Nat.{_*_}
+use native.Mathlib.Omega.{arith}
+use denote.Ref.{now}
+use lib.Seq.{length-take-le}
+use Rattle.calls.specs.Manipulability.{manipulabilityAnswer}
+use Rattle.relaxed_ik.specs.Kept.{manipulabilityKept, Used, used, unused, parts-are, accepted-parts}
+use borrow.Author.Needs.{needs}
+use Rattle.relaxed_ik.proofs.kept.manipulability_on.Statement.{statement}
+use Rattle.relaxed_ik.proofs.kept.manipulability_on.Tie as tie
+
+U : (c : tie.Else1) → Used (now (c .before .before .before .before .before .before .before .args .sizes)) (now (c .before .before .before .before .before .before .before .args .codes)) (c .before .before .in-use .result)
+U c = used _ _ _ (c .before .before .in-use .ensures) (c .if1 .left)
+
+in-use-requires : tie.Need-in-use-requires
+in-use-requires c κs = search needs
+
+returns : tie.Need-returns
+unfolding manipulabilityKept
+returns c = rw (unused _ _ _ (c .before .before .in-use .ensures) (c .if1 .taken))
+
+add-end : tie.Need-add-end
+add-end c = omega (arith, U (c .before))
+
+mul-wide : tie.Need-mul-wide
+mul-wide c = omega (arith, U (c .before))
+
+sub-manipulability : tie.Need-sub-manipulability
+sub-manipulability c = search needs
+
+part-manipulability-start : tie.Need-part-manipulability-start
+part-manipulability-start c = search needs
+
+part-manipulability-end : tie.Need-part-manipulability-end
+part-manipulability-end c = omega (arith, U (c .before), c .before .before .before .before .before .before .before .before .pre)
+
+slice-aggregate-manipulability : tie.Need-slice-aggregate-manipulability
+slice-aggregate-manipulability c =
+    let e = c .before .before .before in
+    sym (length-take-le (e .before .before .in-use .result .links) (now (e .before .before .before .before .before .before .before .args .codes)) (omega (arith, U e, e .before .before .before .before .before .before .before .pre)))
+
+slice-aggregate-manipulability-2 : tie.Need-slice-aggregate-manipulability-2
+slice-aggregate-manipulability-2 c =
+    let e = c .before .before .before .before in
+    sym (length-take-le (7 * e .before .before .in-use .result .links) (now (e .before .before .before .before .before .before .before .args .floats)) (omega (arith, U e, e .before .before .before .before .before .before .before .pre)))
+
+manipulability-requires : tie.Need-manipulability-requires
+manipulability-requires c κs =
+    let e = c .before .before .before .before in
+    let s = e .before .before .before .before .before .before .before in
+    accepted-parts (now (s .args .sizes)) (now (s .args .codes)) (now (s .args .floats)) (e .before .before .in-use .result) (U e) (s .pre .1) (s .pre .2)
+
+returns-2 : tie.Need-returns-2
+unfolding manipulabilityKept
+returns-2 c =
+    let e = c .before .before .before .before .before in
+    let a = e .before .before .before .before .before .before .before .args in
+    rw (U e .have)
+    (c .manipulability .ensures ∙ parts-are (now (a .sizes)) (now (a .codes)) (now (a .floats)) (e .before .before .in-use .result) (U e) (λ ns ks gs. manipulabilityAnswer ns ks gs (now (a .joints))))
+
+pub manipulability-on-spec : {M : Type 1} → statement M
+manipulability-on-spec =
+    tie.close
+    (tie.spec
+    in-use-requires
+    returns
+    add-end
+    mul-wide
+    sub-manipulability
+    part-manipulability-start
+    part-manipulability-end
+    slice-aggregate-manipulability
+    slice-aggregate-manipulability-2
+    manipulability-requires
+    returns-2)
