@@ -76,8 +76,8 @@ pub fn empty() -> State
     }
 }
 
-// Whether the stored lists are a sheet that loading takes, and how much of them is in use.
-pub fn in_use(sizes: &[u16], codes: &[u16]) -> Counts
+// Whether the stored lists have lengths and codes that loading takes, and how much of them is in use.
+pub(crate) fn in_use(sizes: &[u16], codes: &[u16]) -> Counts
     requires { ⌜ (length (now sizes) ≡ 5) × (length (now codes) ≡ 64) ⌝ }
     ensures { λ r. ⌜ r ≡ countsOf (now (sizes .entry)) (now (codes .entry)) ⌝ }
 {

@@ -1,4 +1,4 @@
-// A code taken apart: the one place that knows which number is which kind and axis.
+// A code taken apart: kind and axis.
 ghost use mathlib.Core.Path.{_≡_};
 ghost use Rattle.sheet.specs.Code.{kindOf};
 

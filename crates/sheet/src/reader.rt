@@ -1,4 +1,4 @@
-// A reader that refers to the lent codes list and counts links. Everyone else calls `kind_at`, whose parameters are plain.
+// A small reader of the lent codes list: what the next link is. Everyone else calls `kind_at`, whose parameters are plain.
 use super::code::Kind;
 use super::code::take_apart;
 ghost use mathlib.Core.Path.{_≡_};

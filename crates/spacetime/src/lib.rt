@@ -1,4 +1,4 @@
-// The arm: its links walked, its Jacobian and its manipulability.
+// The arm: its links walked, and the lists of frames.
 pub mod arm;
 pub mod floats;
 pub mod frames;
