@@ -2,10 +2,10 @@
 CASES ?= 2000000
 SEED ?= 1
 
-.PHONY: run test library host compare bench
+.PHONY: run test library host compare bench header controller
 
 run: host
-	host/target/release/show
+	host/target/release/sonde --batch examples/sheets/good
 
 test:
 	tools/gate $(CASES) $(SEED)
@@ -23,3 +23,12 @@ compare: host
 
 bench: host
 	host/target/release/bench
+
+# the C header as C and C++, and held against the library's source
+header: host
+	tools/header_test
+	host/target/release/header
+
+# the C controller, plainly and with guard bytes under the sanitizers
+controller: library
+	tools/controller_test

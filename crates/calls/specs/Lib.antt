@@ -1,3 +1,4 @@
+pub mod Answer
 pub mod Arms
 pub mod Frames
-pub mod Manipulability
+pub mod Rows

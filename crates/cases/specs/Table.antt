@@ -5,28 +5,34 @@ use mathlib.Core.List.{List, [], _∷_, _++_}
 use Prim.Native.Nat.{ℕ}
 use lib.IntN.{negsuc}
 use lib.Ieee.{Float, fin, binary64, add, sub, mul, div, neg, eq, ne, lt, le, ofInt, ofBits}
+use lib.ListN.{length}
 use Rattle.lists.specs.Runs.{runs}
 use Rattle.root.specs.Root.{rootOf}
-use Rattle.standins.specs.Num.{nought, half, one, two}
+use Rattle.standins.specs.Num.{nought, half, one, two, whole}
 use Rattle.standins.specs.Cut.{cutOf}
-use Rattle.standins.specs.Series.{downFrom, sineDivisor, cosineDivisor, termOf, seriesOf, sineOf, cosineOf}
+use Rattle.standins.specs.Series.{downFrom, sineDivisor, cosineDivisor, termOf, seriesOf, sineOf, cosineOf, expTermOf, expSeriesOf, squarings, expOf}
+use Rattle.standins.specs.Power.{power20Of}
 use Rattle.geometry.specs.declared.vector.Vec3.{Vec3}
 use Rattle.geometry.specs.declared.quaternion.Quat.{Quat}
 use Rattle.geometry.specs.Vector.{zeroOf, addOf, subOf, scaleOf, dotOf, crossOf, normOf}
 use Rattle.geometry.specs.Quaternion.{productOf, axisOf, twiceOf, rotateOf, identityOf, quatZOf}
 use Rattle.geometry.specs.Pose.{originOf}
 use Rattle.geometry.specs.Segment.{innerOf, endedOf, closestOf, pointOf, distanceOf}
-use Rattle.sheet.specs.Code.{kindOf}
+use Rattle.sheet.specs.Code.{hasJoint, kindOf}
 use Rattle.sheet.specs.Read.{kindAt}
-use Rattle.sheet.specs.Chain.{firstIn, total, chainStart, jointsOf, jointOf, joints}
-use Rattle.spacetime.specs.Link.{offsetOf, signedOf, alongOf, turnOf, turnedOf, carriedOf, slidOf, linkOf}
-use Rattle.spacetime.specs.Floats.{vecAt, quatAt, flatVec, flatQuat}
+use Rattle.sheet.specs.Chain.{firstIn, endIn, total, chainStart, jointsOf, jointOf, joints}
+use Rattle.spacetime.specs.Link.{offsetOf, signedBy, alongOf, turnOf, turnedBy, turnedOf, carriedOf, slidOf, linkOf}
+use Rattle.spacetime.specs.Floats.{vecAt, quatAt, flatVec, flatQuat, flat}
 use Rattle.spacetime.specs.Walk.{valueOf, afterLink, startOf, beforeOf, poseOf}
 use Rattle.spacetime.specs.Frames.{positionAt, rotationAt, positionsFrom, rotationsFrom, chainPositions, chainRotations, positionsOf, rotationsOf}
 use Rattle.groove.specs.Vars.{resetOf, updateOf}
-use Rattle.refusals.specs.Range.{every, between, within, withinAt}
+use Rattle.groove.specs.Loss.{tenth, grooveLoss, scaledOf, powerOf, bOf, wallOf, swampLoss}
+use Rattle.self_collision.specs.Pairs.{pairsFrom, pairsOf, chainPairs, allPairs}
+use Rattle.objective_master.specs.Objective.{goalObjectives, limitObjective, motionObjectives, pairObjective, objectives}
+use Rattle.one_block.specs.Record.{copyOf, recordOf, againOf, jointEntry, linkEntry, poseEntry, recordJoints, recordLinks, recordPoses, againAt, againBelow, entriesOf}
+use Rattle.refusals.specs.Range.{every, between, within, withinAt, squaresOf, nearOne, unitAt}
 use Rattle.refusals.specs.Lowest.{lowestFrom, lowest}
-use Rattle.refusals.specs.Refusal.{linksFit, badSizes, badLengths, listedKind, listedCode, listedAt, badCodes, chainJoints, twoJoints, laterFits, badJoints, shapeRefusal, badBlock, blockRefusal}
+use Rattle.refusals.specs.Refusal.{linksFit, badSizes, badLengths, listedKind, listedCode, listedAt, badCodes, chainJoints, twoJoints, laterFits, badJoints, freePair, rangedPair, pairFits, limitsFit, badLimits, linkFits, badFloats, loadRefusal, badBlock, blockRefusal}
 
 abbrev vec : Float → Float → Float → Vec3
 vec x y z = record { x = x; y = y; z = z }
@@ -49,6 +55,10 @@ link d o = flatVec d ++ flatQuat o
 abbrev up : List Float
 up = high one ++ still
 
+-- a joint without limits
+abbrev free : List Float
+free = neg (ofBits binary64 0x408f_3800_0000_0000) ∷ ofBits binary64 0x408f_3800_0000_0000 ∷ []
+
 -- a robot of one chain of two links
 abbrev pair : List ℕ
 pair = 2 ∷ []
@@ -59,8 +69,23 @@ quarter = ofBits binary64 0x3fd0_0000_0000_0000
 abbrev eight : Float
 eight = ofBits binary64 0x4020_0000_0000_0000
 
+-- a robot of one chain of four links, the first and the last fixed
+abbrev four : List ℕ
+four = 4 ∷ []
+
+abbrev between-fixed : List ℕ
+between-fixed = 0 ∷ 13 ∷ 13 ∷ 0 ∷ []
+
+-- the seven floats after link l of copy j
+abbrev after : List Float → List Float → ℕ → ℕ → List Float
+after gs x j l = flat (poseOf four between-fixed gs (copyOf x j) l)
+
 -- What each case claims.
 pub record Cases : Type 0 where
+  -- groove at x = t = 0, with the width and factor of the goals: -1
+  pub groove-centre : grooveLoss nought nought tenth (whole 10) ≡ neg one
+  -- swamp of 0 with bounds -1 and 1, with the factors of the limits: -1
+  pub swamp-centre : swampLoss nought (neg one) one (whole 10) (whole 10) 20 ≡ neg one
   -- two revolute links up 1, joints 0: positions z = 0, 1, 2
   pub turning-positions : positionsOf pair (poseOf pair (13 ∷ 13 ∷ []) (up ++ up) (nought ∷ nought ∷ [])) ≡ high nought ++ (high one ++ high two)
   -- and four identity rotations
@@ -73,6 +98,17 @@ pub record Cases : Type 0 where
       ≡ neg half
   -- reset a, update b, update c: c, b, a, a
   pub history : (a b c : List Float) (n : ℕ) → updateOf (updateOf (resetOf a n) b) c ≡ record { joints = n; xopt = c; «prev_state» = b; «prev_state2» = a; «prev_state3» = a }
+  -- 7 joints: 32 objectives; chains of 6 and 3: 36
+  pub seven-joints : length (objectives (7 ∷ [])) ≡ 32
+  pub six-and-three : length (objectives (6 ∷ 3 ∷ [])) ≡ 36
+  -- fixed, revolute, revolute, fixed: 9 walked, links 0 1 2 3 1 2 3 2 3, joints 65535 four times, 0 0 0 1 1
+  pub record-count : entriesOf four between-fixed ≡ 9
+  pub record-links : recordLinks four between-fixed ≡ 0 ∷ 1 ∷ 2 ∷ 3 ∷ 1 ∷ 2 ∷ 3 ∷ 2 ∷ 3 ∷ []
+  pub record-joints : recordJoints four between-fixed ≡ 65535 ∷ 65535 ∷ 65535 ∷ 65535 ∷ 0 ∷ 0 ∷ 0 ∷ 1 ∷ 1 ∷ []
+  -- each entry with the pose after its link in its copy's walk
+  pub record-poses : (gs x : List Float) → recordPoses four between-fixed gs x
+      ≡ after gs x 65535 0 ++ (after gs x 65535 1 ++ (after gs x 65535 2 ++ (after gs x 65535 3
+      ++ (after gs x 0 1 ++ (after gs x 0 2 ++ (after gs x 0 3 ++ (after gs x 1 2 ++ after gs x 1 3)))))))
   -- the root of 2^-1074 is 2^-537
   pub least-root : rootOf (fin false 1 (negsuc 1073)) ≡ fin false 1 (negsuc 536)
   -- parallel unit segments 1 apart: 1
@@ -81,18 +117,33 @@ pub record Cases : Type 0 where
   pub joint-taken : blockRefusal 2 (eight ∷ eight ∷ []) ≡ 0
   pub joint-refused : blockRefusal 2 (eight ∷ ofBits binary64 0x4020_0000_0000_0001 ∷ []) ≡ 7
   -- a chain of one joint is refused, one of two is taken
-  pub one-joint : shapeRefusal (1 ∷ 1 ∷ []) (13 ∷ []) 7 ≡ 4
-  pub two-joints : shapeRefusal (1 ∷ 2 ∷ []) (13 ∷ 13 ∷ []) 14 ≡ 0
+  pub one-joint : loadRefusal (1 ∷ 1 ∷ []) (13 ∷ []) up free ≡ 4
+  pub two-joints : loadRefusal (1 ∷ 2 ∷ []) (13 ∷ 13 ∷ []) (up ++ up) (free ++ free) ≡ 0
+
+-- the poses are left as they are, and only the record around them is computed
+poses-walked : (gs x : List Float) → recordPoses four between-fixed gs x
+    ≡ after gs x 65535 0 ++ (after gs x 65535 1 ++ (after gs x 65535 2 ++ (after gs x 65535 3
+    ++ (after gs x 0 1 ++ (after gs x 0 2 ++ (after gs x 0 3 ++ (after gs x 1 2 ++ after gs x 1 3)))))))
+unfolding recordPoses recordOf againOf poseEntry runs endIn jointOf jointsOf hasJoint flat flatVec flatQuat
+poses-walked gs x = refl
 
 -- All of them, by computing both sides.
 pub cases : Cases
-unfolding positionsOf rotationsOf chainPositions chainRotations positionsFrom rotationsFrom positionAt rotationAt runs poseOf beforeOf startOf afterLink valueOf linkOf offsetOf signedOf alongOf turnOf turnedOf carriedOf slidOf vecAt quatAt flatVec flatQuat firstIn total chainStart jointsOf jointOf joints kindAt kindOf originOf zeroOf identityOf productOf axisOf twiceOf rotateOf quatZOf sineOf cosineOf seriesOf termOf sineDivisor cosineDivisor downFrom rootOf distanceOf pointOf closestOf endedOf innerOf addOf subOf scaleOf dotOf crossOf normOf cutOf blockRefusal badBlock every between within withinAt shapeRefusal lowest lowestFrom badSizes linksFit badLengths badCodes listedAt listedCode listedKind badJoints twoJoints laterFits chainJoints add sub mul div neg eq ne lt le ofInt ofBits
+unfolding recordJoints recordLinks recordOf againOf jointEntry linkEntry againAt againBelow entriesOf endIn objectives goalObjectives limitObjective motionObjectives pairObjective allPairs chainPairs pairsOf pairsFrom grooveLoss swampLoss scaledOf wallOf powerOf bOf power20Of squarings expOf expSeriesOf expTermOf positionsOf rotationsOf chainPositions chainRotations positionsFrom rotationsFrom positionAt rotationAt runs poseOf beforeOf startOf afterLink valueOf linkOf offsetOf signedBy alongOf turnOf turnedOf turnedBy carriedOf slidOf vecAt quatAt flatVec flatQuat firstIn total chainStart hasJoint jointsOf jointOf joints kindAt kindOf originOf zeroOf identityOf productOf axisOf twiceOf rotateOf quatZOf sineOf cosineOf seriesOf termOf sineDivisor cosineDivisor downFrom rootOf distanceOf pointOf closestOf endedOf innerOf addOf subOf scaleOf dotOf crossOf normOf cutOf blockRefusal badBlock every between within withinAt squaresOf nearOne unitAt freePair rangedPair pairFits limitsFit badLimits linkFits badFloats loadRefusal lowest lowestFrom badSizes linksFit badLengths badCodes listedAt listedCode listedKind badJoints twoJoints laterFits chainJoints add sub mul div neg eq ne lt le ofInt ofBits
 cases = record {
+  groove-centre = refl;
+  swamp-centre = refl;
   turning-positions = refl;
   turning-rotations = refl;
   sliding = refl;
   sliding-back = refl;
   history = λ a b c n. refl;
+  seven-joints = refl;
+  six-and-three = refl;
+  record-count = refl;
+  record-links = refl;
+  record-joints = refl;
+  record-poses = poses-walked;
   least-root = refl;
   parallel = refl;
   joint-taken = refl;

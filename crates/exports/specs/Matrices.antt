@@ -7,7 +7,7 @@ use lib.ListN.{length, getD, take}
 use lib.Ieee.{Float, nan}
 use Rattle.lists.specs.Listed.{listed}
 use Rattle.geometry.specs.Matrix.{determinantOf, gramOf}
-use Rattle.exports.specs.Bytes.{floatAt}
+use Rattle.lent_bytes.specs.Bytes.{floatAt}
 
 -- of six rows of six floats
 unfoldable pub determinantIn : List ℕ → Float

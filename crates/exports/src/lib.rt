@@ -1,8 +1,8 @@
 // The functions that C and Rust call, on numbers and byte slices.
-mod arm_lists;
 pub mod arms;
-mod bytes;
-mod lent;
+pub mod losses;
 pub mod matrices;
 pub mod numbers;
+pub mod objectives;
+pub mod one_block_slopes;
 pub mod shapes;

@@ -1,6 +1,6 @@
 // Matrices as little-endian bytes, answered one number at a time. A list of another length is answered with a NaN.
-use crate::bytes;
 use geometry::matrix;
+use lent_bytes::bytes;
 ghost use mathlib.Core.Path.{_≡_};
 ghost use Rattle.exports.specs.Matrices.{determinantIn, gramEntry};
 

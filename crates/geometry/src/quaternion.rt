@@ -79,10 +79,11 @@ pub fn identity() -> Quat
 pub fn get_quat_x(v: f64) -> Quat
     ensures { λ r. ⌜ r ≡ quatXOf v ⌝ }
 {
-    let half = series::sin_cos(v * 0.5);
+    let half = v * 0.5;
+    let both = series::both_series(half * half);
     Quat {
-        w: half.cos,
-        i: half.sin,
+        w: both.cosine,
+        i: half * both.sine,
         j: 0.0,
         k: 0.0,
     }
@@ -91,11 +92,12 @@ pub fn get_quat_x(v: f64) -> Quat
 pub fn get_quat_y(v: f64) -> Quat
     ensures { λ r. ⌜ r ≡ quatYOf v ⌝ }
 {
-    let half = series::sin_cos(v * 0.5);
+    let half = v * 0.5;
+    let both = series::both_series(half * half);
     Quat {
-        w: half.cos,
+        w: both.cosine,
         i: 0.0,
-        j: half.sin,
+        j: half * both.sine,
         k: 0.0,
     }
 }
@@ -103,12 +105,13 @@ pub fn get_quat_y(v: f64) -> Quat
 pub fn get_quat_z(v: f64) -> Quat
     ensures { λ r. ⌜ r ≡ quatZOf v ⌝ }
 {
-    let half = series::sin_cos(v * 0.5);
+    let half = v * 0.5;
+    let both = series::both_series(half * half);
     Quat {
-        w: half.cos,
+        w: both.cosine,
         i: 0.0,
         j: 0.0,
-        k: half.sin,
+        k: half * both.sine,
     }
 }
 

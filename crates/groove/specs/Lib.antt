@@ -1,1 +1,2 @@
 pub mod Vars
+pub mod Loss

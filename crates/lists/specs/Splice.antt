@@ -6,7 +6,7 @@ use native.Mathlib.Nat.{add-zero, add-assoc}
 use native.Mathlib.Numerals.{add-one}
 use native.Mathlib.Omega.{arith}
 use lib.ListN.{length, take, drop, getD, set, length-append, length-take, length-drop, take-append-drop, List·getD-append}
-use lib.Seq.{take-at, drop-at, getD-take, getD-append-add, take-append-le, drop-append-add, drop-drop, set-split, length-take-le, take-take, sets, sets-eq}
+use lib.Seq.{take-at, drop-at, getD-take, getD-drop, getD-append-add, take-append-le, drop-append-add, drop-drop, set-split, length-take-le, take-take, sets, sets-eq}
 
 module _ {A : Type 0} where
   -- xs, with ys in the place of as many from at, where they fit
@@ -56,6 +56,17 @@ module _ {A : Type 0} where
   getD-splice-before xs at ys i d h l =
       let m : i < length (take at xs) = rw (length-take-le at xs) l in
       List·getD-append (take at xs) (ys ++ drop (at + length ys) xs) d i m ∙ getD-take at xs i d l
+
+  -- and after it
+  pub getD-splice-after : (xs : List A) (at : ℕ) (ys : List A) (i : ℕ) (d : A) → at + length ys ≤ length xs
+      → getD (splice xs at ys) (at + length ys + i) d ≡ getD xs (at + length ys + i) d
+  unfolding splice
+  getD-splice-after xs at ys i d h =
+      let n : ℕ = at + length ys in
+      let p : List A = take at xs ++ ys in
+      ap (λ (l : List A). getD l (n + i) d) (sym (append-assoc (take at xs) ys (drop n xs)))
+      ∙ ap (λ (k : ℕ). getD (p ++ drop n xs) (k + i) d) (sym (head-length xs at ys h))
+      ∙ getD-append-add p (drop n xs) i d ∙ getD-drop n xs i d
 
   -- one store
   pub splice-one : (xs : List A) (at : ℕ) (a : A) → at < length xs → splice xs at (a ∷ []) ≡ set xs at a

@@ -1,6 +1,6 @@
 -- The Jacobian of a chain and its manipulability. P gives the pose after each link, numbered across chains; the chain has the links from f on, below e.
 use mathlib.Core.Path.{_≡_, refl, sym, ap, _∙_}
-use mathlib.Core.Bool.{Bool, true, false, cond}
+use mathlib.Core.Bool.{Bool, true, false, cond, not}
 use mathlib.Core.List.{List, [], _∷_, _++_}
 use mathlib.Core.Logic.{⊎-elim}
 use Prim.Native.Nat.{ℕ, zero, suc, _+_, _-_, _*_, _/_, _%_, _≤_, _<_}
@@ -24,7 +24,7 @@ use Rattle.lists.specs.Runs.{runs, runs-none, runs-more}
 use Rattle.lists.specs.Listed.{listed, length-listed}
 use Rattle.sheet.specs.declared.code.Kind.{Kind}
 use Rattle.sheet.specs.declared.code.Kind.the-variants.{Fixed, Turning, Sliding, Unlisted}
-use Rattle.sheet.specs.Code.{kindOf}
+use Rattle.sheet.specs.Code.{hasJoint, axisIn, kindOf}
 use Rattle.sheet.specs.Read.{kindAt}
 use Rattle.sheet.specs.Chain.{total, chainStart, chain-start-next, chain-start-mono, chain-start-total, jointsOf, jointOf, joints, joint-more, joint-mono, joint-last, below-or}
 use Rattle.manipulability.specs.declared.jacobian.Fill.{Fill}
@@ -39,7 +39,7 @@ jointsIn cs f e = jointOf cs e - jointOf cs f
 
 -- link l's axis; a fixed link has none to add
 unfoldable pub axisPiece : List ℕ → ℕ → List ℕ
-axisPiece cs l = cond (eqb (getD cs l 0) 0) [] (getD cs l 0 % 10 ∷ [])
+axisPiece cs l = cond (hasJoint (getD cs l 0)) (axisIn (getD cs l 0) ∷ []) []
 
 -- the axes of the joints of n links from f on, in order
 unfoldable pub axesOf : List ℕ → ℕ → ℕ → List ℕ
@@ -136,18 +136,18 @@ pub record Counted (ns cs : List ℕ) : Type 0 where
 -- ---- laws
 pub piece-length : (cs : List ℕ) (l : ℕ) → length (axisPiece cs l) ≡ jointsOf (getD cs l 0)
 unfolding axisPiece jointsOf
-piece-length cs l = go (eqb (getD cs l 0) 0)
+piece-length cs l = go (hasJoint (getD cs l 0))
   where
-    go : (t : Bool) → length (cond t [] (getD cs l 0 % 10 ∷ [])) ≡ cond t 0 1
+    go : (t : Bool) → length (cond t (axisIn (getD cs l 0) ∷ []) []) ≡ cond t 1 0
     go true = refl
     go false = refl
 
 pub piece-fixed : (cs : List ℕ) (l : ℕ) → getD cs l 0 ≡ 0 → axisPiece cs l ≡ []
-unfolding axisPiece
+unfolding axisPiece hasJoint
 piece-fixed cs l e = rw (eq-eqb (getD cs l 0) 0 e)
 
-pub piece-one : (cs : List ℕ) (l : ℕ) → (getD cs l 0 ≡ 0 → ⊥) → axisPiece cs l ≡ getD cs l 0 % 10 ∷ []
-unfolding axisPiece
+pub piece-one : (cs : List ℕ) (l : ℕ) → (getD cs l 0 ≡ 0 → ⊥) → axisPiece cs l ≡ axisIn (getD cs l 0) ∷ []
+unfolding axisPiece hasJoint
 piece-one cs l e = rw (ne-eqb (getD cs l 0) 0 e)
 
 pub axes-none : (cs : List ℕ) (f : ℕ) → axesOf cs f 0 ≡ []
@@ -209,10 +209,10 @@ start-length n = length-listed unitOf (6 * n)
 
 -- a link that turns has a joint
 pub turns-joint : (cs : List ℕ) (l : ℕ) → turnsAt cs l ≡ true → jointsOf (getD cs l 0) ≡ 1
-unfolding turnsAt kindAt kindOf jointsOf
+unfolding turnsAt kindAt kindOf jointsOf hasJoint
 turns-joint cs l e = go (eqb (getD cs l 0) 0) refl
   where
-    go : (t : Bool) → eqb (getD cs l 0) 0 ≡ t → _≡_ {A = ℕ} (cond (eqb (getD cs l 0) 0) 0 1) 1
+    go : (t : Bool) → eqb (getD cs l 0) 0 ≡ t → _≡_ {A = ℕ} (cond (not (eqb (getD cs l 0) 0)) 1 0) 1
     go true q = let z : _≡_ {A = Bool} false true = rw q at e in let n : _≡_ {A = ℕ} 0 1 = cc in absurd (omega arith)
     go false q = rw q
 

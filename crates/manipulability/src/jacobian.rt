@@ -7,6 +7,7 @@ use geometry::quaternion::Quat;
 use geometry::vector;
 use geometry::vector::Vec3;
 use sheet::chain;
+use sheet::code;
 use sheet::code::Kind;
 use sheet::reader;
 use spacetime::arm;
@@ -32,11 +33,11 @@ fn put_axis(codes: &[u16], link: usize, axes: &mut [u16; 16], joint: usize) -> u
     requires { ⌜ (link < length (now codes)) × (joint + jointsOf (getD (now codes) link 0) ≤ 16) × (length (now axes) ≡ 16) ⌝ }
     ensures { λ r. ⌜ (r ≡ joint + jointsOf (getD (now (codes .entry)) link 0)) × (now (axes .exit) ≡ splice (now (axes .entry)) joint (axisPiece (now (codes .entry)) link)) ⌝ }
 {
-    let code = codes[link];
-    if code == 0 {
+    let k = codes[link];
+    if !code::has_joint(k) {
         return joint;
     }
-    axes[joint] = code % 10;
+    axes[joint] = code::axis(k);
     joint + 1
 }
 

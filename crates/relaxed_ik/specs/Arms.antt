@@ -4,14 +4,21 @@ use Prim.Native.Nat.{ℕ}
 use lib.Ieee.{Float}
 use Rattle.geometry.specs.declared.pose.Pose.{Pose}
 use Rattle.relaxed_ik.specs.declared.state.State.{State}
-use Rattle.relaxed_ik.specs.Kept.{framesNumber, poseNumber, keptPose}
+use Rattle.relaxed_ik.specs.Kept.{framesKept, poseKept, blockKept, keptPose, manipulabilityKept}
 
 -- the pose after each link in the walk of block x
 abbrev pub posesOf : State → List Float → ℕ → Pose
 posesOf s x = keptPose (s .arms .sizes) (s .arms .codes) (s .arms .floats) x
 
 abbrev pub framesNumberOf : State → List Float → ℕ → ℕ → ℕ
-framesNumberOf s x p r = framesNumber (s .arms .sizes) (s .arms .codes) x p r
+framesNumberOf s x p r = framesKept (s .arms .sizes) (s .arms .codes) x p r
 
 abbrev pub poseNumberOf : State → List Float → ℕ → ℕ
-poseNumberOf s x n = poseNumber (s .arms .sizes) (s .arms .codes) x n
+poseNumberOf s x n = poseKept (s .arms .sizes) (s .arms .codes) x n
+
+-- manipulability's number and its value
+abbrev pub manipulabilityNumberOf : State → List Float → ℕ
+manipulabilityNumberOf s x = blockKept (s .arms .sizes) (s .arms .codes) x
+
+abbrev pub manipulabilityValueOf : State → List Float → Float
+manipulabilityValueOf s x = manipulabilityKept (s .arms .sizes) (s .arms .codes) (s .arms .floats) x

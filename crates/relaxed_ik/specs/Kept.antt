@@ -13,11 +13,9 @@ use lib.Seq.{length-take-le}
 use Rattle.geometry.specs.declared.pose.Pose.{Pose}
 use Rattle.sheet.specs.Chain.{total, joints}
 use Rattle.spacetime.specs.Walk.{poseOf}
+use Rattle.manipulability.specs.Jacobian.{manipulabilityOf}
 use Rattle.refusals.specs.Refusal.{shapeRefusal, blockRefusal, goalsRefusal}
 use Rattle.calls.specs.Arms.{Accepted, arms-passed}
-use Rattle.calls.specs.declared.measure.Answer.{Answer}
-use Rattle.calls.specs.declared.measure.Answer.the-variants.{Refused}
-use Rattle.calls.specs.Manipulability.{answerIf, manipulabilityAnswer}
 use Rattle.calls.specs.Frames.{framesRefusal, poseRefusal, pose-room}
 use Rattle.relaxed_ik.specs.State.{sizesUsed, linksUsed, codesUsed, floatsUsed, haveSheet, countsOf, counts-loaded, counts-are, Stored, stored}
 use Rattle.relaxed_ik.specs.declared.state.Counts.{Counts}
@@ -26,31 +24,31 @@ unfoldable pub ifArms : List ℕ → List ℕ → ℕ → ℕ
 ifArms ss cs number = cond (haveSheet ss cs) number 20
 
 -- 20, then 7, then 9
-unfoldable pub framesNumber : List ℕ → List ℕ → List Float → ℕ → ℕ → ℕ
-framesNumber ss cs x p r = ifArms ss cs (framesRefusal (linksUsed ss) (codesUsed ss cs) x p r)
+unfoldable pub framesKept : List ℕ → List ℕ → List Float → ℕ → ℕ → ℕ
+framesKept ss cs x p r = ifArms ss cs (framesRefusal (linksUsed ss) (codesUsed ss cs) x p r)
 
-unfoldable pub poseNumber : List ℕ → List ℕ → List Float → ℕ → ℕ
-poseNumber ss cs x n = ifArms ss cs (poseRefusal (linksUsed ss) (codesUsed ss cs) x n)
+unfoldable pub poseKept : List ℕ → List ℕ → List Float → ℕ → ℕ
+poseKept ss cs x n = ifArms ss cs (poseRefusal (linksUsed ss) (codesUsed ss cs) x n)
 
 -- 20, then 7
-unfoldable pub blockNumber : List ℕ → List ℕ → List Float → ℕ
-blockNumber ss cs x = ifArms ss cs (blockRefusal (joints (codesUsed ss cs)) x)
+unfoldable pub blockKept : List ℕ → List ℕ → List Float → ℕ
+blockKept ss cs x = ifArms ss cs (blockRefusal (joints (codesUsed ss cs)) x)
 
 -- 20, then 8
-unfoldable pub goalsNumber : List ℕ → List ℕ → List Float → ℕ
-goalsNumber ss cs goals = ifArms ss cs (goalsRefusal (getD ss 0 0) goals)
+unfoldable pub goalsKept : List ℕ → List ℕ → List Float → ℕ
+goalsKept ss cs goals = ifArms ss cs (goalsRefusal (getD ss 0 0) goals)
 
 -- 20, then 22, then 7
-unfoldable pub updateNumber : List ℕ → List ℕ → Bool → List Float → ℕ
-updateNumber ss cs started x = ifArms ss cs (cond started (blockRefusal (joints (codesUsed ss cs)) x) 22)
-
--- 20, then 7, else the value
-unfoldable pub manipulabilityKept : List ℕ → List ℕ → List Float → List Float → Answer
-manipulabilityKept ss cs gs x = answerIf (haveSheet ss cs) (manipulabilityAnswer (linksUsed ss) (codesUsed ss cs) (floatsUsed ss gs) x) (Refused 20)
+unfoldable pub updateKept : List ℕ → List ℕ → Bool → List Float → ℕ
+updateKept ss cs started x = ifArms ss cs (cond started (blockRefusal (joints (codesUsed ss cs)) x) 22)
 
 -- the poses of the stored sheet's walk
 unfoldable pub keptPose : List ℕ → List ℕ → List Float → List Float → ℕ → Pose
 keptPose ss cs gs x = poseOf (linksUsed ss) (codesUsed ss cs) (floatsUsed ss gs) x
+
+-- and their manipulability
+unfoldable pub manipulabilityKept : List ℕ → List ℕ → List Float → List Float → Float
+manipulabilityKept ss cs gs x = manipulabilityOf (keptPose ss cs gs x) (linksUsed ss) (codesUsed ss cs)
 
 -- ---- laws
 pub arms-there : (ss cs : List ℕ) (n : ℕ) → haveSheet ss cs ≡ true → ifArms ss cs n ≡ n
@@ -79,10 +77,10 @@ drop-take zero [] = refl
 drop-take (suc k) [] = rw add-one refl
 drop-take k (x ∷ xs) = rw add-one refl
 
-pub accepted : (ss cs : List ℕ) (gs : List Float) → length cs ≡ 64 → length gs ≡ 448 → haveSheet ss cs ≡ true
+pub stored-accepted : (ss cs : List ℕ) (gs : List Float) → length cs ≡ 64 → length gs ≡ 448 → haveSheet ss cs ≡ true
     → Accepted (linksUsed ss) (codesUsed ss cs) (floatsUsed ss gs)
 unfolding sizesUsed linksUsed floatsUsed
-accepted ss cs gs lc lg e =
+stored-accepted ss cs gs lc lg e =
     let s : Stored ss cs = stored ss cs e in
     let w : length (floatsUsed ss gs) ≡ 7 * total (linksUsed ss) = length-take-le _ gs (omega (arith, s .links)) in
     subst (λ (ns : List ℕ). Accepted ns (codesUsed ss cs) (floatsUsed ss gs)) (drop-take (getD ss 0 0) ss)
@@ -135,12 +133,12 @@ module _ (ss cs : List ℕ) (gs : List Float) (n : Counts) (u : Used ss cs n) wh
   accepted-parts lc lg =
       subst (λ (ns : List ℕ). Accepted ns (take (n .links) cs) (take (7 * n .links) gs)) (sym links-part)
       (subst (λ (k : List ℕ). Accepted (linksUsed ss) k (take (7 * n .links) gs)) (sym codes-part)
-      (subst (λ (g : List Float). Accepted (linksUsed ss) (codesUsed ss cs) g) (sym floats-part) (accepted ss cs gs lc lg (u .have))))
+      (subst (λ (g : List Float). Accepted (linksUsed ss) (codesUsed ss cs) g) (sym floats-part) (stored-accepted ss cs gs lc lg (u .have))))
 
 -- ---- end poses always find room in 28 floats, so only the arms and the block are asked
-pub pose-number : (ss cs : List ℕ) (x : List Float) → poseNumber ss cs x 28 ≡ blockNumber ss cs x
-unfolding poseNumber blockNumber ifArms
-pose-number ss cs x = pick (haveSheet ss cs) refl
+pub pose-kept : (ss cs : List ℕ) (x : List Float) → poseKept ss cs x 28 ≡ blockKept ss cs x
+unfolding poseKept blockKept ifArms
+pose-kept ss cs x = pick (haveSheet ss cs) refl
   where
     short : getD ss 0 0 ≤ 4 → 7 * length (linksUsed ss) ≤ 28
     short h = omega (arith, links-length ss)

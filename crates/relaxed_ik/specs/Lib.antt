@@ -4,3 +4,7 @@ pub mod Kept
 pub mod Arms
 pub mod Party
 pub mod Loaded
+pub mod Aim
+pub mod Objective
+pub mod OneBlock
+pub mod Numbers

@@ -1,4 +1,4 @@
--- What a load leaves: nothing at the start, and after an accepted load the very sheet that was lent, with no goals and no start.
+-- What a load leaves: nothing at the start, and after an accepted load the very sheet and limits that were lent, with no goals, no start and no history.
 use mathlib.Core.Path.{_≡_, refl, sym, ap, _∙_}
 use mathlib.Core.Bool.{true, false}
 use mathlib.Core.List.{List}
@@ -8,13 +8,13 @@ use borrow.Author.Tests.{le-ltb}
 use lib.Ieee.{Float}
 use lib.ListN.{length, getD, drop, replicate}
 use Rattle.lists.specs.Splice.{splice, getD-splice-in, part-splice}
-use Rattle.sheet.specs.Chain.{total}
+use Rattle.sheet.specs.Chain.{total, joints}
 use Rattle.refusals.specs.Lowest.{lowest, lowestFrom, first-none}
-use Rattle.refusals.specs.Refusal.{linksOf, badSizes, shapeRefusal, loadRefusal}
+use Rattle.refusals.specs.Refusal.{chainsOf, linksOf, badSizes, shapeRefusal, loadRefusal}
 use Rattle.refusals.specs.Range.{between}
 use Rattle.refusals.specs.Passed.{Shape, load-first, load-passed}
 use Rattle.relaxed_ik.specs.declared.state.State.{State}
-use Rattle.relaxed_ik.specs.State.{zeros, sizesUsed, linksUsed, codesUsed, floatsUsed, haveSheet, emptyArms, emptyParty, emptyState}
+use Rattle.relaxed_ik.specs.State.{zeros, sizesUsed, linksUsed, codesUsed, floatsUsed, limitsUsed, haveSheet, emptyArms, emptyParty, emptyState}
 use Rattle.relaxed_ik.specs.Load.{armsOf, loadOf, outcomeOf}
 use Rattle.relaxed_ik.specs.Kept.{drop-take}
 
@@ -30,7 +30,7 @@ module _ (sizes codes : List ℕ) (floats limits : List Float) (e : loadRefusal 
   shape : Shape sizes codes (length floats)
   shape = load-passed sizes codes floats limits e .0
 
-  chains-kept : getD ss 0 0 ≡ getD sizes 0 0
+  pub chains-kept : getD ss 0 0 ≡ getD sizes 0 0
   chains-kept = getD-splice-in (replicate 5 0) 0 sizes 0 0 (omega arith) (omega (arith, shape .sized .counted))
 
   sizes-kept : sizesUsed ss ≡ sizes
@@ -52,6 +52,12 @@ module _ (sizes codes : List ℕ) (floats limits : List Float) (e : loadRefusal 
   unfolding floatsUsed
   floats-kept = part-splice (zeros 448) 0 (7 * total (linksUsed ss)) floats (omega arith) (shape .wide ∙ ap (λ (k : ℕ). 7 * k) (sym total-kept))
 
+  pub limits-kept : limitsUsed ss (splice (replicate 64 0) 0 codes) (splice (zeros 32) 0 limits) ≡ limits
+  unfolding limitsUsed
+  limits-kept =
+      part-splice (zeros 32) 0 (2 * joints (codesUsed ss (splice (replicate 64 0) 0 codes))) limits (omega arith)
+      (load-passed sizes codes floats limits e .1 ∙ ap (λ (cs : List ℕ). 2 * joints cs) (sym codes-kept))
+
   -- arms are there
   pub sheet-kept : haveSheet ss (splice (replicate 64 0) 0 codes) ≡ true
   unfolding haveSheet
@@ -60,24 +66,30 @@ module _ (sizes codes : List ℕ) (floats limits : List Float) (e : loadRefusal 
       let w : 7 * total (linksUsed ss) ≡ length floats = ap (λ (k : ℕ). 7 * k) total-kept ∙ sym (shape .wide) in
       rw (le-ltb 4 (getD ss 0 0) (omega (arith, chains-kept, shape .sized .few)), le-ltb 64 (total (linksUsed ss)) (omega (arith, total-kept, shape .most)), sizes-kept, codes-kept, w, z)
 
--- an accepted load: the sheet is in the state, and nothing else is
-pub record Loaded (sizes codes : List ℕ) (floats : List Float) (s : State) : Type 0 where
+-- an accepted load: the sheet and its limits are in the state, and nothing else is
+pub record Loaded (sizes codes : List ℕ) (floats limits : List Float) (s : State) : Type 0 where
   pub have : haveSheet (s .arms .sizes) (s .arms .codes) ≡ true
+  pub chains : getD (s .arms .sizes) 0 0 ≡ chainsOf sizes
   pub links : linksUsed (s .arms .sizes) ≡ linksOf sizes
   pub same-codes : codesUsed (s .arms .sizes) (s .arms .codes) ≡ codes
   pub same-floats : floatsUsed (s .arms .sizes) (s .arms .floats) ≡ floats
+  pub same-limits : limitsUsed (s .arms .sizes) (s .arms .codes) (s .arms .limits) ≡ limits
   pub no-goals : s .party .«has_goals» ≡ false
   pub no-start : s .party .started ≡ false
+  pub empty : s .party ≡ emptyParty
 
 pub loaded : (s : State) (sizes codes : List ℕ) (floats limits : List Float) → loadRefusal sizes codes floats limits ≡ 0
-    → Loaded sizes codes floats (loadOf s sizes codes floats limits .state)
+    → Loaded sizes codes floats limits (loadOf s sizes codes floats limits .state)
 unfolding loadOf outcomeOf armsOf emptyParty
 loaded s sizes codes floats limits e =
     rw e (record {
       have = sheet-kept sizes codes floats limits e;
+      chains = chains-kept sizes codes floats limits e;
       links = links-kept sizes codes floats limits e;
       same-codes = codes-kept sizes codes floats limits e;
       same-floats = floats-kept sizes codes floats limits e;
+      same-limits = limits-kept sizes codes floats limits e;
       no-goals = refl;
       no-start = refl;
+      empty = refl;
     })

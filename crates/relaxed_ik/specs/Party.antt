@@ -15,7 +15,7 @@ use Rattle.relaxed_ik.specs.declared.state.State.{State}
 use Rattle.relaxed_ik.specs.declared.state.Outcome.{Outcome}
 use Rattle.relaxed_ik.specs.State.{zeros, linksUsed, stored}
 use Rattle.relaxed_ik.specs.Load.{outcomeOf}
-use Rattle.relaxed_ik.specs.Kept.{blockNumber, goalsNumber, updateNumber, there}
+use Rattle.relaxed_ik.specs.Kept.{blockKept, goalsKept, updateKept, there}
 use Rattle.relaxed_ik.specs.Arms.{posesOf}
 
 -- goals, zeros behind them
@@ -30,7 +30,7 @@ withGoals p goals = record {
 
 -- set goals: 20, then 8
 unfoldable pub setGoalsOf : State → List Float → Outcome
-setGoalsOf s goals = outcomeOf (goalsNumber (s .arms .sizes) (s .arms .codes) goals) s (record { arms = s .arms; party = withGoals (s .party) goals })
+setGoalsOf s goals = outcomeOf (goalsKept (s .arms .sizes) (s .arms .codes) goals) s (record { arms = s .arms; party = withGoals (s .party) goals })
 
 -- a start: the history is the block four times, and the end poses are kept, zeros behind them
 unfoldable pub withStart : Party → List Float → List Float → Party
@@ -45,7 +45,7 @@ withStart p x ends = record {
 -- reset: 20, then 7
 unfoldable pub resetStateOf : State → List Float → Outcome
 resetStateOf s x =
-    outcomeOf (blockNumber (s .arms .sizes) (s .arms .codes) x) s
+    outcomeOf (blockKept (s .arms .sizes) (s .arms .codes) x) s
     (record { arms = s .arms; party = withStart (s .party) x (endsOf (linksUsed (s .arms .sizes)) (posesOf s x)) })
 
 -- one block more: the others move one back
@@ -61,22 +61,22 @@ withBlock p x = record {
 -- update: 20, then 22, then 7
 unfoldable pub updateStateOf : State → List Float → Outcome
 updateStateOf s x =
-    outcomeOf (updateNumber (s .arms .sizes) (s .arms .codes) (s .party .started) x) s (record { arms = s .arms; party = withBlock (s .party) x })
+    outcomeOf (updateKept (s .arms .sizes) (s .arms .codes) (s .party .started) x) s (record { arms = s .arms; party = withBlock (s .party) x })
 
 -- ---- laws: what is accepted fits the arrays
-pub goals-fit : (ss cs : List ℕ) (goals : List Float) → goalsNumber ss cs goals ≡ 0 → length goals ≤ 52
-unfolding goalsNumber
+pub goals-fit : (ss cs : List ℕ) (goals : List Float) → goalsKept ss cs goals ≡ 0 → length goals ≤ 52
+unfolding goalsKept
 goals-fit ss cs goals e =
     let t = there ss cs _ e in
     omega (arith, goals-passed _ goals (t .1), stored ss cs (t .0) .few)
 
-pub block-fits : (ss cs : List ℕ) (x : List Float) → blockNumber ss cs x ≡ 0 → length x ≤ 16
-unfolding blockNumber
+pub block-fits : (ss cs : List ℕ) (x : List Float) → blockKept ss cs x ≡ 0 → length x ≤ 16
+unfolding blockKept
 block-fits ss cs x e =
     let t = there ss cs _ e in
     omega (arith, block-passed _ x (t .1), shape-passed _ _ _ (stored ss cs (t .0) .shape) .moving)
 
-pub update-fits : (ss cs : List ℕ) (started : Bool) (x : List Float) → updateNumber ss cs started x ≡ 0 → length x ≤ 16
-unfolding updateNumber blockNumber
+pub update-fits : (ss cs : List ℕ) (started : Bool) (x : List Float) → updateKept ss cs started x ≡ 0 → length x ≤ 16
+unfolding updateKept blockKept
 update-fits ss cs true x e = block-fits ss cs x e
 update-fits ss cs false x e = let t = there ss cs _ e in absurd (omega (arith, t .1))

@@ -48,6 +48,10 @@ codesUsed ss cs = take (total (linksUsed ss)) cs
 unfoldable pub floatsUsed : List ℕ → List Float → List Float
 floatsUsed ss gs = take (7 * total (linksUsed ss)) gs
 
+-- two limits a joint
+unfoldable pub limitsUsed : List ℕ → List ℕ → List Float → List Float
+limitsUsed ss cs ls = take (2 * joints (codesUsed ss cs)) ls
+
 -- arms are there: at most four chains and 64 links, of lengths and codes that loading takes
 unfoldable pub haveSheet : List ℕ → List ℕ → Bool
 haveSheet ss cs =

@@ -1,15 +1,15 @@
 // Calls that ask the arms alone.
 use crate::kept;
 use crate::state::State;
-use calls::measure::Answer;
+use calls::answer::Answer;
 ghost use mathlib.Core.Path.{_≡_};
 ghost use lib.ListN.{length};
 ghost use Rattle.lists.specs.Splice.{splice};
 ghost use Rattle.spacetime.specs.Frames.{positionsOf, rotationsOf, endsOf};
 ghost use Rattle.calls.specs.Arms.{ifTaken};
+ghost use Rattle.calls.specs.Answer.{numberOf, answerValue, valueIf, answerOf};
 ghost use Rattle.relaxed_ik.specs.State.{linksUsed};
-ghost use Rattle.relaxed_ik.specs.Kept.{manipulabilityKept};
-ghost use Rattle.relaxed_ik.specs.Arms.{posesOf, framesNumberOf, poseNumberOf};
+ghost use Rattle.relaxed_ik.specs.Arms.{posesOf, framesNumberOf, poseNumberOf, manipulabilityNumberOf, manipulabilityValueOf};
 
 // The frames after each link: positions by 3 and rotations by 4, chain after chain.
 pub fn frames(state: State, joints: &[f64], positions: &mut [f64], rotations: &mut [f64]) -> u16
@@ -41,7 +41,9 @@ pub fn pose(state: State, joints: &[f64], ends: &mut [f64]) -> u16
 
 // The arm's manipulability, summed over its chains.
 pub fn manipulability(state: State, joints: &[f64]) -> Answer
-    ensures { λ r. ⌜ r ≡ manipulabilityKept (state .arms .sizes) (state .arms .codes) (state .arms .floats) (now (joints .entry)) ⌝ }
+    ensures number { λ r. ⌜ numberOf r ≡ manipulabilityNumberOf state (now (joints .entry)) ⌝ }
+    ensures value { λ r. ⌜ answerValue r ≡ valueIf (numberOf r) (manipulabilityValueOf state (now (joints .entry))) ⌝ }
+    ensures case { λ r. ⌜ r ≡ answerOf (numberOf r) (answerValue r) ⌝ }
 {
     let arms = state.arms;
     let sizes = arms.sizes;

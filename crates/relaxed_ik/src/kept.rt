@@ -1,8 +1,8 @@
 // The calls on the stored sheet's lists, zeros behind them: 20 where there are no arms.
 use crate::state;
+use calls::answer::Answer;
 use calls::frames;
 use calls::measure;
-use calls::measure::Answer;
 use refusals::lent;
 use sheet::chain;
 ghost use mathlib.Core.Path.{_≡_};
@@ -10,8 +10,9 @@ ghost use lib.ListN.{length};
 ghost use Rattle.lists.specs.Splice.{splice};
 ghost use Rattle.spacetime.specs.Frames.{positionsOf, rotationsOf, endsOf};
 ghost use Rattle.calls.specs.Arms.{ifTaken};
+ghost use Rattle.calls.specs.Answer.{numberOf, answerValue, valueIf, answerOf};
 ghost use Rattle.relaxed_ik.specs.State.{linksUsed};
-ghost use Rattle.relaxed_ik.specs.Kept.{framesNumber, poseNumber, blockNumber, goalsNumber, updateNumber, manipulabilityKept, keptPose};
+ghost use Rattle.relaxed_ik.specs.Kept.{framesKept, poseKept, blockKept, goalsKept, updateKept, manipulabilityKept, keptPose};
 
 pub fn frames_on(
     sizes: &[u16],
@@ -22,7 +23,7 @@ pub fn frames_on(
     rotations: &mut [f64],
 ) -> u16
     requires { ⌜ (length (now sizes) ≡ 5) × (length (now codes) ≡ 64) × (length (now floats) ≡ 448) ⌝ }
-    ensures number { λ r. ⌜ r ≡ framesNumber (now (sizes .entry)) (now (codes .entry)) (now (joints .entry)) (length (now (positions .entry))) (length (now (rotations .entry))) ⌝ }
+    ensures number { λ r. ⌜ r ≡ framesKept (now (sizes .entry)) (now (codes .entry)) (now (joints .entry)) (length (now (positions .entry))) (length (now (rotations .entry))) ⌝ }
     ensures positions { λ r. ⌜ now (positions .exit) ≡ ifTaken r (now (positions .entry)) (splice (now (positions .entry)) 0
         (positionsOf (linksUsed (now (sizes .entry))) (keptPose (now (sizes .entry)) (now (codes .entry)) (now (floats .entry)) (now (joints .entry))))) ⌝ }
     ensures rotations { λ r. ⌜ now (rotations .exit) ≡ ifTaken r (now (rotations .entry)) (splice (now (rotations .entry)) 0
@@ -53,7 +54,7 @@ pub fn pose_on(
     ends: &mut [f64],
 ) -> u16
     requires { ⌜ (length (now sizes) ≡ 5) × (length (now codes) ≡ 64) × (length (now floats) ≡ 448) ⌝ }
-    ensures number { λ r. ⌜ r ≡ poseNumber (now (sizes .entry)) (now (codes .entry)) (now (joints .entry)) (length (now (ends .entry))) ⌝ }
+    ensures number { λ r. ⌜ r ≡ poseKept (now (sizes .entry)) (now (codes .entry)) (now (joints .entry)) (length (now (ends .entry))) ⌝ }
     ensures ends { λ r. ⌜ now (ends .exit) ≡ ifTaken r (now (ends .entry)) (splice (now (ends .entry)) 0
         (endsOf (linksUsed (now (sizes .entry))) (keptPose (now (sizes .entry)) (now (codes .entry)) (now (floats .entry)) (now (joints .entry))))) ⌝ }
 {
@@ -75,7 +76,7 @@ pub fn pose_on(
 
 pub fn block_on(sizes: &[u16], codes: &[u16], joints: &[f64]) -> u16
     requires { ⌜ (length (now sizes) ≡ 5) × (length (now codes) ≡ 64) ⌝ }
-    ensures { λ r. ⌜ r ≡ blockNumber (now (sizes .entry)) (now (codes .entry)) (now (joints .entry)) ⌝ }
+    ensures { λ r. ⌜ r ≡ blockKept (now (sizes .entry)) (now (codes .entry)) (now (joints .entry)) ⌝ }
 {
     let n = state::in_use(sizes, codes);
     if !n.loaded {
@@ -87,7 +88,7 @@ pub fn block_on(sizes: &[u16], codes: &[u16], joints: &[f64]) -> u16
 
 pub fn goals_on(sizes: &[u16], codes: &[u16], goals: &[f64]) -> u16
     requires { ⌜ (length (now sizes) ≡ 5) × (length (now codes) ≡ 64) ⌝ }
-    ensures { λ r. ⌜ r ≡ goalsNumber (now (sizes .entry)) (now (codes .entry)) (now (goals .entry)) ⌝ }
+    ensures { λ r. ⌜ r ≡ goalsKept (now (sizes .entry)) (now (codes .entry)) (now (goals .entry)) ⌝ }
 {
     let n = state::in_use(sizes, codes);
     if !n.loaded {
@@ -98,7 +99,7 @@ pub fn goals_on(sizes: &[u16], codes: &[u16], goals: &[f64]) -> u16
 
 pub fn update_on(sizes: &[u16], codes: &[u16], started: bool, joints: &[f64]) -> u16
     requires { ⌜ (length (now sizes) ≡ 5) × (length (now codes) ≡ 64) ⌝ }
-    ensures { λ r. ⌜ r ≡ updateNumber (now (sizes .entry)) (now (codes .entry)) started (now (joints .entry)) ⌝ }
+    ensures { λ r. ⌜ r ≡ updateKept (now (sizes .entry)) (now (codes .entry)) started (now (joints .entry)) ⌝ }
 {
     let n = state::in_use(sizes, codes);
     if !n.loaded {
@@ -112,7 +113,10 @@ pub fn update_on(sizes: &[u16], codes: &[u16], started: bool, joints: &[f64]) ->
 
 pub fn manipulability_on(sizes: &[u16], codes: &[u16], floats: &[f64], joints: &[f64]) -> Answer
     requires { ⌜ (length (now sizes) ≡ 5) × (length (now codes) ≡ 64) × (length (now floats) ≡ 448) ⌝ }
-    ensures { λ r. ⌜ r ≡ manipulabilityKept (now (sizes .entry)) (now (codes .entry)) (now (floats .entry)) (now (joints .entry)) ⌝ }
+    ensures number { λ r. ⌜ numberOf r ≡ blockKept (now (sizes .entry)) (now (codes .entry)) (now (joints .entry)) ⌝ }
+    ensures value { λ r. ⌜ answerValue r ≡ valueIf (numberOf r)
+        (manipulabilityKept (now (sizes .entry)) (now (codes .entry)) (now (floats .entry)) (now (joints .entry))) ⌝ }
+    ensures case { λ r. ⌜ r ≡ answerOf (numberOf r) (answerValue r) ⌝ }
 {
     let n = state::in_use(sizes, codes);
     if !n.loaded {

@@ -10,6 +10,7 @@ use native.Mathlib.Omega.{arith}
 use lib.Dec.{eqb, ltb}
 use lib.ListN.{getD, length, drop, drop-of-length-le}
 use lib.Seq.{drop-cons}
+use Rattle.sheet.specs.Code.{hasJoint}
 use borrow.Author.Tests.{lt-ltb, le-ltb, eq-eqb, ne-eqb, ltb-true, ltb-false}
 
 -- link k is the first of a chain
@@ -34,7 +35,7 @@ chainStart ns (suc c) = chainStart ns c + getD ns c 0
 
 -- how many joints a link of that code has: a non-fixed link has one
 unfoldable pub jointsOf : ℕ → ℕ
-jointsOf k = cond (eqb k 0) 0 1
+jointsOf k = cond (hasJoint k) 1 0
 
 -- how many of the links below l have a joint: the number of l's own joint, if it has one
 unfoldable pub jointOf : List ℕ → ℕ → ℕ
@@ -135,11 +136,11 @@ first-of-chain (n ∷ ns) (suc c) =
 
 -- ---- joints
 pub joints-fixed : (k : ℕ) → k ≡ 0 → jointsOf k ≡ 0
-unfolding jointsOf
+unfolding jointsOf hasJoint
 joints-fixed k e = rw (eq-eqb k 0 e)
 
 pub joints-one : (k : ℕ) → (k ≡ 0 → ⊥) → jointsOf k ≡ 1
-unfolding jointsOf
+unfolding jointsOf hasJoint
 joints-one k e = rw (ne-eqb k 0 e)
 
 pub joints-most : (k : ℕ) → jointsOf k ≤ 1

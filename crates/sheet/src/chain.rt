@@ -1,4 +1,5 @@
 // Chains and joints: `sizes` has the links of each chain, without the chain count in front.
+use super::code;
 ghost use mathlib.Core.Path.{_≡_};
 ghost use Prim.Native.Nat.{_+_, _≤_, _<_, _^_};
 ghost use lib.ListN.{length, getD};
@@ -63,7 +64,11 @@ pub fn next_joint(codes: &[u16], link: usize, joint: usize) -> usize
     requires { ⌜ (link < length (now codes)) × (joint + 1 < 2 ^ 64) ⌝ }
     ensures { λ r. ⌜ r ≡ joint + jointsOf (getD (now (codes .entry)) link 0) ⌝ }
 {
-    if codes[link] == 0 { joint } else { joint + 1 }
+    if code::has_joint(codes[link]) {
+        joint + 1
+    } else {
+        joint
+    }
 }
 
 // The number of a link's joint; at the length of the list, the number of all joints.

@@ -1,6 +1,6 @@
-// A code taken apart: kind and axis.
+// A code taken apart: whether the link has a joint, its axis, its kind.
 ghost use mathlib.Core.Path.{_≡_};
-ghost use Rattle.sheet.specs.Code.{kindOf};
+ghost use Rattle.sheet.specs.Code.{hasJoint, axisIn, kindOf};
 
 // What a link does, with its axis: 0 none, 1 to 3 x, y, z, 4 to 6 their negatives.
 pub enum Kind {
@@ -8,6 +8,20 @@ pub enum Kind {
     Turning(u16),
     Sliding(u16),
     Unlisted,
+}
+
+// Every link but a fixed one has a joint.
+pub fn has_joint(code: u16) -> bool
+    ensures { λ r. ⌜ r ≡ hasJoint code ⌝ }
+{
+    code != 0
+}
+
+// The axis of a link that has a joint.
+pub fn axis(code: u16) -> u16
+    ensures { λ r. ⌜ r ≡ axisIn code ⌝ }
+{
+    code % 10
 }
 
 pub fn take_apart(code: u16) -> Kind

@@ -4,11 +4,10 @@ use mathlib.Core.Bool.{Bool, true, false, cond}
 use mathlib.Core.List.{List}
 use Prim.Native.Nat.{ℕ, _+_, _≤_, _<_}
 use native.Mathlib.Omega.{arith}
-use lib.Dec.{eqb}
 use lib.Ieee.{Float, nan}
 use lib.ListN.{getD}
-use borrow.Author.Tests.{eqb-false}
 use Rattle.standins.specs.Num.{nought}
+use Rattle.sheet.specs.Code.{hasJoint, joint-there}
 use Rattle.sheet.specs.Chain.{chainStart, jointOf, joint-mono, joint-below, first-of-chain}
 use Rattle.spacetime.specs.Walk.{valueOf, poseOf, pose-same}
 
@@ -19,11 +18,11 @@ Agree ns cs x y c = (j : ℕ) → jointOf cs (chainStart ns c) ≤ j → j < joi
 -- a link reads the same of two blocks that agree at its joint, if it has one
 value-same : (cs : List ℕ) (x y : List Float) (l j : ℕ) → ((getD cs l 0 ≡ 0 → ⊥) → getD x j nan ≡ getD y j nan) → valueOf cs x l j ≡ valueOf cs y l j
 unfolding valueOf
-value-same cs x y l j agree = go (eqb (getD cs l 0) 0) refl
+value-same cs x y l j agree = go (hasJoint (getD cs l 0)) refl
   where
-    go : (t : Bool) → eqb (getD cs l 0) 0 ≡ t → cond t nought (getD x j nan) ≡ cond t nought (getD y j nan)
-    go true q = refl
-    go false q = agree (eqb-false (getD cs l 0) 0 q)
+    go : (t : Bool) → hasJoint (getD cs l 0) ≡ t → cond t (getD x j nan) nought ≡ cond t (getD y j nan) nought
+    go false q = refl
+    go true q = agree (joint-there (getD cs l 0) q)
 
 -- links and joints are numbered across chains
 pub chain-apart : (ns cs : List ℕ) (gs x y : List Float) (c : ℕ) → Agree ns cs x y c

@@ -53,3 +53,10 @@ pose-is l at p h =
     let e2 : at + 3 + 2 ≡ at + 5 = omega arith in
     let e3 : at + 3 + 3 ≡ at + 6 = omega arith in
     rw (e1, e2, e3, h0, h 1 (omega arith), h 2 (omega arith), h 3 (omega arith), h 4 (omega arith), h 5 (omega arith), h 6 (omega arith))
+
+-- so is a quaternion
+pub quat-is : (l : List Float) (at : ℕ) (q : Quat) → ((r : ℕ) → r < 4 → getD l (at + r) nan ≡ getD (flatQuat q) r nan) → quatAt l at ≡ q
+unfolding quatAt flatQuat
+quat-is l at q h =
+    let h0 : getD l at nan ≡ q .w = rw add-zero at (h 0 (omega arith)) in
+    rw (h0, h 1 (omega arith), h 2 (omega arith), h 3 (omega arith))

@@ -28,15 +28,19 @@ positionsFrom P f n = flatVec (originOf .position) ++ runs (positionAt P) f n
 unfoldable pub rotationsFrom : (ℕ → Pose) → ℕ → ℕ → List Float
 rotationsFrom P f n = flatQuat (originOf .rotation) ++ (runs (rotationAt P) f n ++ rotationAt P (f + n - 1))
 
--- those of chain c, and its end pose: that after its last link
+-- those of chain c
 unfoldable pub chainPositions : List ℕ → (ℕ → Pose) → ℕ → List Float
 chainPositions ns P c = positionsFrom P (chainStart ns c) (getD ns c 0)
 
 unfoldable pub chainRotations : List ℕ → (ℕ → Pose) → ℕ → List Float
 chainRotations ns P c = rotationsFrom P (chainStart ns c) (getD ns c 0)
 
+-- the pose at its end: that after its last link
+abbrev pub endOf : List ℕ → (ℕ → Pose) → ℕ → Pose
+endOf ns P c = P (chainStart ns c + getD ns c 0 - 1)
+
 unfoldable pub chainEnd : List ℕ → (ℕ → Pose) → ℕ → List Float
-chainEnd ns P c = flat (P (chainStart ns c + getD ns c 0 - 1))
+chainEnd ns P c = flat (endOf ns P c)
 
 -- what an accepted sheet's chains have: at most four, none without a link
 pub record Chains (ns : List ℕ) : Type 0 where

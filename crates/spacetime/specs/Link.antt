@@ -8,7 +8,7 @@ use Rattle.geometry.specs.declared.vector.Vec3.{Vec3}
 use Rattle.geometry.specs.declared.quaternion.Quat.{Quat}
 use Rattle.geometry.specs.declared.pose.Pose.{Pose}
 use Rattle.geometry.specs.Vector.{addOf}
-use Rattle.geometry.specs.Quaternion.{productOf, rotateOf, quatXOf, quatYOf, quatZOf}
+use Rattle.geometry.specs.Quaternion.{identityOf, productOf, rotateOf, quatXOf, quatYOf, quatZOf}
 use Rattle.sheet.specs.declared.code.Kind.{Kind}
 use Rattle.sheet.specs.declared.code.Kind.the-variants.{Fixed, Turning, Sliding, Unlisted}
 
@@ -29,26 +29,36 @@ offsetOf q o =
     q))
 
 -- a joint's value along its axis: axes 4 to 6 are the negatives
-unfoldable pub signedOf : ℕ → Float → Float
-signedOf a v = cond (ltb 3 a) (neg v) v
+unfoldable pub signedBy : ℕ → Float → Float
+signedBy a v = cond (ltb 3 a) (neg v) v
 
 -- v along axis a: axes 1 and 4 are x, 2 and 5 y, 3 and 6 z
 unfoldable pub alongOf : ℕ → Float → Vec3
 alongOf a v =
-    vecIf (eqb (a % 3) 1) (record { x = signedOf a v; y = nought; z = nought })
-    (vecIf (eqb (a % 3) 2) (record { x = nought; y = signedOf a v; z = nought })
-    (record { x = nought; y = nought; z = signedOf a v }))
+    vecIf (eqb (a % 3) 1) (record { x = signedBy a v; y = nought; z = nought })
+    (vecIf (eqb (a % 3) 2) (record { x = nought; y = signedBy a v; z = nought })
+    (record { x = nought; y = nought; z = signedBy a v }))
 
 -- a turn by v about axis a
 unfoldable pub turnOf : ℕ → Float → Quat
 turnOf a v =
-    quatIf (eqb (a % 3) 1) (quatXOf (signedOf a v))
-    (quatIf (eqb (a % 3) 2) (quatYOf (signedOf a v))
-    (quatZOf (signedOf a v)))
+    quatIf (eqb (a % 3) 1) (quatXOf (signedBy a v))
+    (quatIf (eqb (a % 3) 2) (quatYOf (signedBy a v))
+    (quatZOf (signedBy a v)))
 
 -- axis none does not turn
+unfoldable pub turnedBy : Quat → ℕ → Quat → Quat
+turnedBy q a t = quatIf (eqb a 0) q (productOf q t)
+
 unfoldable pub turnedOf : Quat → ℕ → Float → Quat
-turnedOf q a v = quatIf (eqb a 0) q (productOf q (turnOf a v))
+turnedOf q a v = turnedBy q a (turnOf a v)
+
+-- a joint's turn at v; a link that does not turn has none to add
+unfoldable pub jointTurn : Kind → Float → Quat
+jointTurn Fixed v = identityOf
+jointTurn Unlisted v = identityOf
+jointTurn (Turning a) v = turnOf a v
+jointTurn (Sliding a) v = identityOf
 
 -- the point moved by the displacement, as the pose turns it
 unfoldable pub carriedOf : Pose → Vec3 → Vec3

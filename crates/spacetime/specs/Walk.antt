@@ -7,16 +7,15 @@ use Prim.Native.Nat.{ℕ, zero, suc, _+_, _*_, _≤_, _<_}
 use native.Mathlib.Nat.{eq-or-lt-of-le}
 use native.Mathlib.Numerals.{add-one}
 use native.Mathlib.Omega.{arith}
-use lib.Dec.{eqb}
 use lib.Ieee.{Float, nan}
 use lib.ListN.{getD, length, set}
 use lib.Seq.{getD-set-other}
-use borrow.Author.Tests.{eqb-false}
 use Rattle.standins.specs.Num.{nought}
 use Rattle.geometry.specs.declared.pose.Pose.{Pose}
 use Rattle.geometry.specs.Pose.{originOf}
 use Rattle.lists.specs.Splice.{splice, getD-splice-in}
 use Rattle.lists.specs.Runs.{runs, length-runs, getD-runs}
+use Rattle.sheet.specs.Code.{hasJoint, joint-there}
 use Rattle.sheet.specs.Chain.{total, firstIn, jointOf, joints, joint-below, below-or}
 use Rattle.sheet.specs.Read.{kindAt}
 use Rattle.spacetime.specs.Link.{linkOf}
@@ -28,7 +27,7 @@ poseIf false a b = b
 
 -- what link l reads of a block, its joint's number being j: nothing if it is fixed
 unfoldable pub valueOf : List ℕ → List Float → ℕ → ℕ → Float
-valueOf cs x l j = cond (eqb (getD cs l 0) 0) nought (getD x j nan)
+valueOf cs x l j = cond (hasJoint (getD cs l 0)) (getD x j nan) nought
 
 -- the pose after link l, whose joint has the number j, p being the pose before it; its seven floats are displacement and offset
 unfoldable pub afterLink : List ℕ → List Float → List Float → Pose → ℕ → ℕ → Pose
@@ -102,16 +101,16 @@ module _ (ns cs : List ℕ) (gs x y : List Float) (e : ℕ) (first : firstIn ns 
 pub value-other : (cs : List ℕ) (x : List Float) (k l : ℕ) (v : Float) → (getD cs k 0 ≡ 0 → ⊥) → (k ≡ l → ⊥)
     → valueOf cs x l (jointOf cs l) ≡ valueOf cs (set x (jointOf cs k) v) l (jointOf cs l)
 unfolding valueOf
-value-other cs x k l v turns other = go (eqb (getD cs l 0) 0) refl
+value-other cs x k l v turns other = go (hasJoint (getD cs l 0)) refl
   where
-    go : (t : Bool) → eqb (getD cs l 0) 0 ≡ t
-        → cond (eqb (getD cs l 0) 0) nought (getD x (jointOf cs l) nan) ≡ cond (eqb (getD cs l 0) 0) nought (getD (set x (jointOf cs k) v) (jointOf cs l) nan)
-    go true q = rw q
-    go false q =
-        let ne : getD cs l 0 ≡ 0 → ⊥ = eqb-false (getD cs l 0) 0 q in
+    go : (t : Bool) → hasJoint (getD cs l 0) ≡ t
+        → cond (hasJoint (getD cs l 0)) (getD x (jointOf cs l) nan) nought ≡ cond (hasJoint (getD cs l 0)) (getD (set x (jointOf cs k) v) (jointOf cs l) nan) nought
+    go false q = rw q
+    go true q =
+        let ne : getD cs l 0 ≡ 0 → ⊥ = joint-there (getD cs l 0) q in
         let apart : jointOf cs l ≡ jointOf cs k → ⊥ =
         λ j. ⊎-elim (λ (b : k < l). omega (arith, joint-below cs k l b turns)) (λ (b : l ≤ k). let other′ : l ≡ k → ⊥ = λ z. other (sym z) in let b′ : l < k = omega arith in omega (arith, joint-below cs l k b′ ne)) (below-or k l) in
-        ap (λ (z : Float). cond (eqb (getD cs l 0) 0) nought z) (sym (getD-set-other x (jointOf cs k) (jointOf cs l) v nan apart))
+        ap (λ (z : Float). cond (hasJoint (getD cs l 0)) z nought) (sym (getD-set-other x (jointOf cs k) (jointOf cs l) v nan apart))
 
 pub poses-length : (ns cs : List ℕ) (gs x : List Float) (i : ℕ) → length (poses ns cs gs x i) ≡ 7
 unfolding poses

@@ -7,15 +7,18 @@ use geometry::quaternion::Quat;
 use geometry::vector;
 use geometry::vector::Vec3;
 use sheet::chain;
+use sheet::code;
 use sheet::code::Kind;
 use sheet::reader;
 ghost use mathlib.Core.Path.{_≡_};
 ghost use Prim.Native.Nat.{_+_, _*_, _≤_, _<_};
 ghost use lib.ListN.{length, getD};
 ghost use Rattle.lists.specs.Splice.{splice};
-ghost use Rattle.sheet.specs.Chain.{jointsOf};
-ghost use Rattle.spacetime.specs.Link.{offsetOf, signedOf, alongOf, turnOf, turnedOf, carriedOf, slidOf, linkOf};
+ghost use Rattle.sheet.specs.Chain.{jointsOf, joints};
+ghost use Rattle.spacetime.specs.Floats.{vecAt, quatAt};
+ghost use Rattle.spacetime.specs.Link.{offsetOf, signedBy, alongOf, turnOf, jointTurn, turnedBy, carriedOf, slidOf, linkOf};
 ghost use Rattle.spacetime.specs.Walk.{valueOf, afterLink, startOf, Sheet, framesOf};
+ghost use Rattle.spacetime.specs.Turns.{turnAt, turnsOf, Turned};
 
 fn offset(q: Quat, o: Quat) -> Quat
     ensures { λ r. ⌜ r ≡ offsetOf q o ⌝ }
@@ -33,7 +36,7 @@ fn offset(q: Quat, o: Quat) -> Quat
 }
 
 fn signed(axis: u16, v: f64) -> f64
-    ensures { λ r. ⌜ r ≡ signedOf axis v ⌝ }
+    ensures { λ r. ⌜ r ≡ signedBy axis v ⌝ }
 {
     if axis > 3 {
         return -v;
@@ -82,13 +85,26 @@ fn turn(axis: u16, v: f64) -> Quat
     quaternion::get_quat_z(s)
 }
 
-fn turned(q: Quat, axis: u16, v: f64) -> Quat
-    ensures { λ r. ⌜ r ≡ turnedOf q axis v ⌝ }
+// A joint's turn at v; a link that does not turn has none to add.
+fn joint_turn(kind: Kind, v: f64) -> Quat
+    ensures { λ r. ⌜ r ≡ jointTurn kind v ⌝ }
+{
+    match kind {
+        Kind::Turning(axis) => turn(axis, v),
+        Kind::Sliding(_) => quaternion::identity(),
+        Kind::Fixed => quaternion::identity(),
+        Kind::Unlisted => quaternion::identity(),
+    }
+}
+
+// q turned by t, unless the axis is none.
+fn turned(q: Quat, axis: u16, t: Quat) -> Quat
+    ensures { λ r. ⌜ r ≡ turnedBy q axis t ⌝ }
 {
     if axis == 0 {
         return q;
     }
-    quaternion::product(q, turn(axis, v))
+    quaternion::product(q, t)
 }
 
 fn carried(p: Pose, d: Vec3) -> Vec3
@@ -108,15 +124,16 @@ fn slid(p: Pose, d: Vec3, axis: u16, v: f64) -> Vec3
     vector::add(carried(p, d), along(axis, v))
 }
 
-// The pose after a link of displacement d and offset o, its joint at v.
-pub fn link(kind: Kind, d: Vec3, o: Quat, v: f64, p: Pose) -> Pose
+// The pose after a link of displacement d and offset o, its joint at v and turned by t.
+fn link(kind: Kind, d: Vec3, o: Quat, v: f64, t: Quat, p: Pose) -> Pose
+    requires { ⌜ t ≡ jointTurn kind v ⌝ }
     ensures { λ r. ⌜ r ≡ linkOf kind d o v p ⌝ }
 {
     let q = offset(p.rotation, o);
     match kind {
         Kind::Turning(axis) => Pose {
             position: carried(p, d),
-            rotation: turned(q, axis, v),
+            rotation: turned(q, axis, t),
         },
         Kind::Sliding(axis) => Pose {
             position: slid(p, d, axis, v),
@@ -137,7 +154,22 @@ fn value(codes: &[u16], block: &[f64], link: usize, joint: usize) -> f64
     requires { ⌜ (link < length (now codes)) × (joint + jointsOf (getD (now codes) link 0) ≤ length (now block)) ⌝ }
     ensures { λ r. ⌜ r ≡ valueOf (now (codes .entry)) (now (block .entry)) link joint ⌝ }
 {
-    if codes[link] == 0 { 0.0 } else { block[joint] }
+    if code::has_joint(codes[link]) {
+        block[joint]
+    } else {
+        0.0
+    }
+}
+
+// The pose after a link of the sheet, its joint at v and turned by t.
+fn after_turn(p: Pose, kind: Kind, geo: &[f64], at: usize, v: f64, t: Quat) -> Pose
+    requires { ⌜ 7 * at + 7 ≤ length (now geo) ⌝ }
+    requires { ⌜ t ≡ jointTurn kind v ⌝ }
+    ensures { λ r. ⌜ r ≡ linkOf kind (vecAt (now (geo .entry)) (7 * at)) (quatAt (now (geo .entry)) (7 * at + 3)) v p ⌝ }
+{
+    let d = floats::get_vec(geo, 7 * at);
+    let o = floats::get_quat(geo, 7 * at + 3);
+    link(kind, d, o, v, t, p)
 }
 
 // The pose after a link of the sheet, its joint read from the block.
@@ -154,10 +186,8 @@ pub fn after_link(
     ensures { λ r. ⌜ r ≡ afterLink (now (codes .entry)) (now (geo .entry)) (now (block .entry)) p at joint ⌝ }
 {
     let kind = reader::kind_at(codes, at);
-    let d = floats::get_vec(geo, 7 * at);
-    let o = floats::get_quat(geo, 7 * at + 3);
     let v = value(codes, block, at, joint);
-    link(kind, d, o, v, p)
+    after_turn(p, kind, geo, at, v, joint_turn(kind, v))
 }
 
 // The pose with which a link is met: a chain starts at the origin.
@@ -168,6 +198,60 @@ pub fn start(sizes: &[u16], at: usize, p: Pose) -> Pose
         return pose::origin();
     }
     p
+}
+
+// The turns of all joints, one a link: their series wait for nothing, so they go together.
+fn put_turns(codes: &[u16], block: &[f64], turns: &mut [f64])
+    requires { ⌜ (joints (now codes) ≤ length (now block)) × (4 * length (now codes) ≤ length (now turns)) × (length (now codes) ≤ 64) ⌝ }
+    ensures { λ _. ⌜ now (turns .exit) ≡ splice (now (turns .entry)) 0 (turnsOf (now (codes .entry)) (now (block .entry))) ⌝ }
+{
+    let mut joint: usize = 0;
+    let mut at: usize = 0;
+    while at < codes.len() {
+        let v = value(codes, block, at, joint);
+        let t = joint_turn(reader::kind_at(codes, at), v);
+        floats::put_quat(turns, 4 * at, t);
+        joint = chain::next_joint(codes, at, joint);
+        at += 1;
+    }
+}
+
+// The pose after a link whose turn is known.
+fn after_known(
+    p: Pose,
+    codes: &[u16],
+    geo: &[f64],
+    block: &[f64],
+    turns: &[f64],
+    at: usize,
+    joint: usize,
+) -> Pose
+    requires { ⌜ (at < length (now codes)) × (7 * at + 7 ≤ length (now geo)) × (4 * at + 4 ≤ length (now turns)) ⌝ }
+    requires { ⌜ joint + jointsOf (getD (now codes) at 0) ≤ length (now block) ⌝ }
+    requires { ⌜ quatAt (now turns) (4 * at) ≡ turnAt (now codes) (now block) at joint ⌝ }
+    ensures { λ r. ⌜ r ≡ afterLink (now (codes .entry)) (now (geo .entry)) (now (block .entry)) p at joint ⌝ }
+{
+    let kind = reader::kind_at(codes, at);
+    let v = value(codes, block, at, joint);
+    after_turn(p, kind, geo, at, v, floats::get_quat(turns, 4 * at))
+}
+
+// Walks all links, whose turns are known.
+fn walk(sizes: &[u16], codes: &[u16], geo: &[f64], block: &[f64], turns: &[f64], out: &mut [f64])
+    requires { ⌜ Sheet (now sizes) (now codes) (now geo) (now block) ⌝ }
+    requires { ⌜ Turned (now codes) (now block) (now turns) ⌝ }
+    requires { ⌜ 7 * length (now codes) ≤ length (now out) ⌝ }
+    ensures { λ _. ⌜ now (out .exit) ≡ splice (now (out .entry)) 0 (framesOf (now (sizes .entry)) (now (codes .entry)) (now (geo .entry)) (now (block .entry))) ⌝ }
+{
+    let mut p = pose::origin();
+    let mut joint: usize = 0;
+    let mut at: usize = 0;
+    while at < codes.len() {
+        p = after_known(start(sizes, at, p), codes, geo, block, turns, at, joint);
+        floats::put(out, 7 * at, p);
+        joint = chain::next_joint(codes, at, joint);
+        at += 1;
+    }
 }
 
 // Walks all links, and writes the pose after each as seven floats.
@@ -182,13 +266,7 @@ pub fn get_frames_immutable(
     requires { ⌜ 7 * length (now codes) ≤ length (now out) ⌝ }
     ensures { λ _. ⌜ now (out .exit) ≡ splice (now (out .entry)) 0 (framesOf (now (sizes .entry)) (now (codes .entry)) (now (geo .entry)) (now (block .entry))) ⌝ }
 {
-    let mut p = pose::origin();
-    let mut joint: usize = 0;
-    let mut at: usize = 0;
-    while at < codes.len() {
-        p = after_link(start(sizes, at, p), codes, geo, block, at, joint);
-        floats::put(out, 7 * at, p);
-        joint = chain::next_joint(codes, at, joint);
-        at += 1;
-    }
+    let mut turns = [0.0; 256];
+    put_turns(codes, block, &mut turns);
+    walk(sizes, codes, geo, block, &turns, out);
 }

@@ -6,7 +6,7 @@ use native.Mathlib.Omega.{arith}
 use lib.Ieee.{Float, nan, binary64, ofBits, neg, lt, ne}
 use Rattle.root.specs.Root.{rootOf}
 use Rattle.standins.specs.Num.{_⊕_, _⊖_, _⊗_, _⊘_, nought, one, whole}
-use Rattle.standins.specs.declared.series.SinCos.{SinCos}
+use Rattle.standins.specs.declared.series.BothSeries.{BothSeries}
 
 -- for k = n down to 1, s becomes f k s
 unfoldable pub downFrom : (ℕ → Float → Float) → ℕ → Float → Float
@@ -26,18 +26,20 @@ cosineDivisor n = whole ((2 * n - 1) * (2 * n))
 unfoldable pub termOf : (ℕ → Float) → Float → ℕ → Float → Float
 termOf d q n s = one ⊖ s ⊗ q ⊘ d n
 
--- q = a·a, s = 1; for n = 16 down to 1, s = 1 - s·q/d
+-- s = 1; for n = 16 down to 1, s = 1 - s·q/d
 unfoldable pub seriesOf : (ℕ → Float) → Float → Float
-seriesOf d a = downFrom (termOf d (a ⊗ a)) 16 one
+seriesOf d q = downFrom (termOf d q) 16 one
 
+-- of q = a·a: a·s, and s
 unfoldable pub sineOf : Float → Float
-sineOf a = a ⊗ seriesOf sineDivisor a
+sineOf a = a ⊗ seriesOf sineDivisor (a ⊗ a)
 
 unfoldable pub cosineOf : Float → Float
-cosineOf a = seriesOf cosineDivisor a
+cosineOf a = seriesOf cosineDivisor (a ⊗ a)
 
-unfoldable pub sineCosineOf : Float → SinCos
-sineCosineOf a = record { sin = sineOf a; cos = cosineOf a }
+-- both series of q
+abbrev pub bothSeriesOf : Float → BothSeries
+bothSeriesOf q = record { sine = seriesOf sineDivisor q; cosine = seriesOf cosineDivisor q }
 
 -- ---- exponential
 

@@ -1,7 +1,6 @@
 // Sine, cosine, the exponential and the arc tangent: each a series worked out from its last term down, one rounding for each operation.
 ghost use mathlib.Core.Path.{_≡_};
-ghost use Prim.Native.Nat.{_≤_, _<_};
-ghost use Rattle.standins.specs.Series.{sineDivisor, cosineDivisor, sineOf, cosineOf, sineCosineOf, expSeriesOf, squarings, expOf, halvedOf, arcSeriesOf, smallAngleOf, atan2Of};
+ghost use Rattle.standins.specs.Series.{bothSeriesOf, sineOf, cosineOf, expSeriesOf, squarings, expOf, halvedOf, arcSeriesOf, smallAngleOf, atan2Of};
 
 // 2n·(2n+1), for n from 1
 const SINE_DIVISORS: [f64; 16] = [
@@ -43,53 +42,43 @@ const COSINE_DIVISORS: [f64; 16] = [
     992.0,
 ];
 
-pub struct SinCos {
-    pub sin: f64,
-    pub cos: f64,
+// The series of the sine and of the cosine, of one square.
+pub struct BothSeries {
+    pub sine: f64,
+    pub cosine: f64,
 }
 
-fn sine_divisor(n: usize) -> f64
-    requires { ⌜ (0 < n) × (n ≤ 16) ⌝ }
-    ensures { λ r. ⌜ r ≡ sineDivisor n ⌝ }
+// Both in one loop: the two chains of divisions do not wait for each other.
+pub fn both_series(q: f64) -> BothSeries
+    ensures { λ r. ⌜ r ≡ bothSeriesOf q ⌝ }
 {
-    SINE_DIVISORS[n - 1]
-}
-
-fn cosine_divisor(n: usize) -> f64
-    requires { ⌜ (0 < n) × (n ≤ 16) ⌝ }
-    ensures { λ r. ⌜ r ≡ cosineDivisor n ⌝ }
-{
-    COSINE_DIVISORS[n - 1]
-}
-
-// Sine and cosine, good for |a| up to about 4. Both in one loop: the two chains of divisions do not wait for each other.
-pub fn sin_cos(a: f64) -> SinCos
-    ensures { λ r. ⌜ r ≡ sineCosineOf a ⌝ }
-{
-    let q = a * a;
+    // Copied once: in the loop each read would copy its table.
+    let sines = SINE_DIVISORS;
+    let cosines = COSINE_DIVISORS;
     let mut s = 1.0;
     let mut c = 1.0;
     let mut n: usize = 16;
     while n > 0 {
-        s = 1.0 - s * q / sine_divisor(n);
-        c = 1.0 - c * q / cosine_divisor(n);
+        s = 1.0 - s * q / sines[n - 1];
+        c = 1.0 - c * q / cosines[n - 1];
         n -= 1;
     }
-    SinCos { sin: a * s, cos: c }
+    BothSeries { sine: s, cosine: c }
 }
 
+// Good for |a| up to about 4, as is the cosine.
 pub fn sin(a: f64) -> f64
     ensures { λ r. ⌜ r ≡ sineOf a ⌝ }
 {
-    let both = sin_cos(a);
-    both.sin
+    let both = both_series(a * a);
+    a * both.sine
 }
 
 pub fn cos(a: f64) -> f64
     ensures { λ r. ⌜ r ≡ cosineOf a ⌝ }
 {
-    let both = sin_cos(a);
-    both.cos
+    let both = both_series(a * a);
+    both.cosine
 }
 
 fn exp_series(z: f64) -> f64

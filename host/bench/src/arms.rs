@@ -3,7 +3,7 @@
 //! writes lists of bytes. The published function has its arms made beforehand,
 //! so the ratio holds all of that too.
 
-use crate::{row, Draw};
+use crate::{Draw, Rows};
 use proved::arms::{self, Sheet};
 use proved::{put_floats, put_u16s};
 use reference::refusals::{self, f64s, u16s};
@@ -11,41 +11,44 @@ use reference::sheet;
 use reference::spacetime::robot::Robot;
 use std::cell::RefCell;
 
-/// One chain that turns at every link, axes in turn, in numbers and in bytes.
-struct Chain {
-    robot: Robot,
+/// Chains that turn at every link, axes in turn, in numbers and in bytes.
+pub struct Chains {
+    pub robot: Robot,
     sizes: Vec<u8>,
     codes: Vec<u8>,
     floats: Vec<u8>,
     limits: Vec<u8>,
 }
 
-impl Chain {
-    fn new(joints: usize, draw: &mut Draw) -> Self {
-        let sizes = [1, joints as u16];
-        let codes: Vec<u16> = (0..joints).map(|at| 11 + (at % 6) as u16).collect();
+impl Chains {
+    /// Of so many joints each.
+    pub fn new(joints: &[usize], draw: &mut Draw) -> Self {
+        let mut sizes = vec![joints.len() as u16];
+        sizes.extend(joints.iter().map(|&n| n as u16));
+        let axes = |&n: &usize| (0..n).map(|at| 11 + (at % 6) as u16);
+        let codes: Vec<u16> = joints.iter().flat_map(axes).collect();
         let mut floats = Vec::new();
-        for _ in 0..joints {
+        for _ in &codes {
             // Short enough for a manipulability below the cut at 1.
             floats.extend(draw.floats::<3>(-0.1, 0.1));
             floats.extend(draw.quaternion());
         }
-        let limits = [-3.0, 3.0].repeat(joints);
-        let mut chain = Self {
+        let limits = [-3.0, 3.0].repeat(codes.len());
+        let mut chains = Self {
             robot: sheet::robot(&sizes, &codes, &floats, &limits),
             sizes: Vec::new(),
             codes: Vec::new(),
             floats: Vec::new(),
             limits: Vec::new(),
         };
-        put_u16s(&sizes, &mut chain.sizes);
-        put_u16s(&codes, &mut chain.codes);
-        put_floats(&floats, &mut chain.floats);
-        put_floats(&limits, &mut chain.limits);
-        chain
+        put_u16s(&sizes, &mut chains.sizes);
+        put_u16s(&codes, &mut chains.codes);
+        put_floats(&floats, &mut chains.floats);
+        put_floats(&limits, &mut chains.limits);
+        chains
     }
 
-    fn sheet(&self) -> Sheet<'_> {
+    pub fn sheet(&self) -> Sheet<'_> {
         Sheet {
             sizes: &self.sizes,
             codes: &self.codes,
@@ -55,13 +58,13 @@ impl Chain {
     }
 }
 
-fn first(bytes: &[u8]) -> f64 {
+pub fn first(bytes: &[u8]) -> f64 {
     f64::from_le_bytes(bytes[..8].try_into().expect("eight bytes"))
 }
 
-pub fn rows(draw: &mut Draw) {
+pub fn rows(rows: &mut Rows, draw: &mut Draw) {
     for joints in [7, 16] {
-        let chain = Chain::new(joints, draw);
+        let chain = Chains::new(&[joints], draw);
         // Joints as numbers and as bytes, for either side what it takes.
         let blocks = draw.inputs(|d| {
             let block: Vec<f64> = (0..joints).map(|_| d.between(-3.0, 3.0)).collect();
@@ -71,7 +74,7 @@ pub fn rows(draw: &mut Draw) {
         });
         let (positions, rotations) = (24 * (joints + 1), 32 * (joints + 2));
         let lists = RefCell::new((vec![0; positions], vec![0; rotations]));
-        row(
+        rows.row(
             &format!("frames, {joints} joints"),
             &blocks,
             |(_, bytes)| {
@@ -86,7 +89,7 @@ pub fn rows(draw: &mut Draw) {
             },
         );
         let value = RefCell::new([0; 8]);
-        row(
+        rows.row(
             &format!("manipulability, {joints} joints"),
             &blocks,
             |(_, bytes)| {
@@ -102,9 +105,9 @@ pub fn rows(draw: &mut Draw) {
     // document 01 that the comparison uses.
     for joints in [7, 16] {
         // A sheet is a thousand bytes, so few of them stay near the processor.
-        let chains: Vec<Chain> = (0..64).map(|_| Chain::new(joints, draw)).collect();
+        let chains: Vec<Chains> = (0..64).map(|_| Chains::new(&[joints], draw)).collect();
         let numbers = RefCell::new((Vec::new(), Vec::new(), Vec::new(), Vec::new()));
-        row(
+        rows.row(
             &format!("load, {joints} joints"),
             &chains,
             |chain| f64::from(arms::load(chain.sheet())),

@@ -7,11 +7,19 @@
 #[cfg(feature = "arms")]
 mod arms;
 mod digits;
+#[cfg(feature = "objective")]
+mod objective;
 
 use nalgebra::{DMatrix, Point3, Quaternion, UnitQuaternion, Vector3};
 use parry3d_f64::{query, shape::Segment};
 use std::hint::black_box;
+use std::process::ExitCode;
 use std::time::Instant;
+
+const USAGE: &str = "\
+bench [WORD]          times the rows, or those with the word in their name
+bench --once NAME N   runs one row's proved side N times, untimed
+bench --list          the names of the rows";
 
 /// Inputs of one pass; small enough to stay near the processor.
 const INPUTS: usize = 1024;
@@ -68,56 +76,137 @@ fn median(mut times: Vec<f64>) -> f64 {
 }
 
 /// Times both in turn, so that a change of the machine's pace meets both.
-fn row<I>(name: &str, inputs: &[I], proved: impl Fn(&I) -> f64, reference: impl Fn(&I) -> f64) {
+fn time<I>(name: &str, inputs: &[I], proved: &impl Fn(&I) -> f64, reference: &impl Fn(&I) -> f64) {
     let passes = |once: f64| (SECONDS * 1e9 / (once * inputs.len() as f64)).ceil() as usize;
-    let proved_passes = passes(nanoseconds(inputs, 4, &proved));
-    let reference_passes = passes(nanoseconds(inputs, 4, &reference));
+    let proved_passes = passes(nanoseconds(inputs, 4, proved));
+    let reference_passes = passes(nanoseconds(inputs, 4, reference));
     let (mut ours, mut theirs) = (Vec::new(), Vec::new());
     for _ in 0..REPETITIONS {
-        ours.push(nanoseconds(inputs, proved_passes, &proved));
-        theirs.push(nanoseconds(inputs, reference_passes, &reference));
+        ours.push(nanoseconds(inputs, proved_passes, proved));
+        theirs.push(nanoseconds(inputs, reference_passes, reference));
     }
     let (ours, theirs) = (median(ours), median(theirs));
     println!(
-        "{name:<32} {ours:>10.1} {theirs:>12.1} {:>8.2}   {:e} {:e}",
+        "{name:<36} {ours:>10.1} {theirs:>12.1} {:>8.2}   {:e} {:e}",
         ours / theirs,
-        pass(inputs, &proved),
-        pass(inputs, &reference)
+        pass(inputs, proved),
+        pass(inputs, reference)
     );
+}
+
+/// What is asked for on the command line.
+#[derive(Debug, PartialEq)]
+enum Wish {
+    /// Rows with the word in their name; an empty word is in every one.
+    Time(String),
+    Once(String, usize),
+    List,
+}
+
+fn wish(arguments: &[&str]) -> Result<Wish, String> {
+    match arguments {
+        [] => Ok(Wish::Time(String::new())),
+        ["--list"] => Ok(Wish::List),
+        ["--once", name, times] => {
+            let times = times
+                .parse()
+                .map_err(|_| format!("not a whole number: {times}"))?;
+            Ok(Wish::Once(name.to_string(), times))
+        }
+        [word] if !word.starts_with('-') => Ok(Wish::Time(word.to_string())),
+        _ => Err(format!("not understood: {}", arguments.join(" "))),
+    }
+}
+
+/// The rows as they come, and whether one was wished for.
+struct Rows {
+    wish: Wish,
+    found: bool,
+}
+
+impl Rows {
+    /// Inputs are drawn for rows that are passed over too, so a row has the
+    /// same ones whatever is asked for.
+    fn row<I>(
+        &mut self,
+        name: &str,
+        inputs: &[I],
+        proved: impl Fn(&I) -> f64,
+        reference: impl Fn(&I) -> f64,
+    ) {
+        match &self.wish {
+            Wish::List => println!("{name}"),
+            Wish::Time(word) if name.contains(word.as_str()) => {
+                time(name, inputs, &proved, &reference);
+            }
+            Wish::Once(chosen, times) if name == chosen => {
+                let calls = inputs.iter().cycle().take(*times);
+                let sum: f64 = calls.map(|input| proved(black_box(input))).sum();
+                println!("{name}: {times} calls, sum {sum:e}");
+            }
+            _ => return,
+        }
+        self.found = true;
+    }
 }
 
 fn unit(q: &[f64; 4]) -> UnitQuaternion<f64> {
     UnitQuaternion::new_unchecked(Quaternion::new(q[0], q[1], q[2], q[3]))
 }
 
-fn main() {
+fn main() -> ExitCode {
+    let arguments: Vec<String> = std::env::args().skip(1).collect();
+    let arguments: Vec<&str> = arguments.iter().map(String::as_str).collect();
+    let wish = match wish(&arguments) {
+        Ok(wish) => wish,
+        Err(message) => {
+            eprintln!("{message}\n\n{USAGE}");
+            return ExitCode::from(2);
+        }
+    };
+    if let Wish::Time(_) = wish {
+        println!(
+            "{:<36} {:>10} {:>12} {:>8}   sums of one pass",
+            "name", "proved ns", "reference ns", "ratio"
+        );
+    }
+    let mut rows = Rows { wish, found: false };
     let mut draw = Draw(0x9e37_79b9_7f4a_7c15);
-    println!(
-        "{:<32} {:>10} {:>12} {:>8}   sums of one pass",
-        "name", "proved ns", "reference ns", "ratio"
-    );
+    leaves(&mut rows, &mut draw);
+    #[cfg(feature = "arms")]
+    arms::rows(&mut rows, &mut draw);
+    #[cfg(feature = "objective")]
+    objective::rows(&mut rows, &mut draw);
+    if rows.found {
+        ExitCode::SUCCESS
+    } else {
+        eprintln!("no such row (--list shows them)");
+        ExitCode::from(2)
+    }
+}
 
+fn leaves(rows: &mut Rows, draw: &mut Draw) {
     let radicands = draw.inputs(|d| d.between(0.0, 100.0));
     let root = |x: &f64| proved::sqrt(*x);
-    row("sqrt, against digit by digit", &radicands, root, |x| {
+    rows.row("sqrt, against digit by digit", &radicands, root, |x| {
         digits::root(*x)
     });
-    row("sqrt, against the machine's", &radicands, root, |x| {
+    rows.row("sqrt, against the machine's", &radicands, root, |x| {
         standins::sqrt(*x)
     });
 
     let angles = draw.inputs(|d| d.between(-4.0, 4.0));
-    row("sin", &angles, |a| proved::sin(*a), |a| standins::sin(*a));
-    row("cos", &angles, |a| proved::cos(*a), |a| standins::cos(*a));
+    rows.row("sin", &angles, |a| proved::sin(*a), |a| standins::sin(*a));
+    rows.row("cos", &angles, |a| proved::cos(*a), |a| standins::cos(*a));
     let exponents = draw.inputs(|d| d.between(-700.0, 0.0));
-    row(
+    rows.row(
         "exp",
         &exponents,
         |y| proved::exp(*y),
         |y| standins::exp(*y),
     );
     let sides = draw.inputs(|d| d.floats::<2>(0.0, 1.0));
-    row(
+    rows.row(
         "atan2",
         &sides,
         |[n, w]| proved::atan2(*n, *w),
@@ -127,14 +216,14 @@ fn main() {
     // A proved function of several parts gives one a call; the reference is
     // made to give all of its parts.
     let turns = draw.inputs(Draw::quaternion);
-    row(
+    rows.row(
         "scaled_axis, one part a call",
         &turns,
         |q| proved::scaled_axis_part(*q, 0),
         |q| black_box(unit(q).scaled_axis()).x,
     );
     let pairs = draw.inputs(|d| (d.quaternion(), d.quaternion()));
-    row(
+    rows.row(
         "quat_product, one part a call",
         &pairs,
         |(a, b)| proved::quat_product_part(*a, *b, 0),
@@ -143,7 +232,7 @@ fn main() {
 
     let points = draw.inputs(|d| [(); 4].map(|()| d.floats::<3>(-1.0, 1.0)));
     let place = nalgebra::one();
-    row(
+    rows.row(
         "segment_distance",
         &points,
         |s| proved::segment_distance(*s),
@@ -161,13 +250,46 @@ fn main() {
         proved::put_floats(&entries, &mut bytes);
         (bytes, DMatrix::from_fn(6, 6, |r, c| entries[6 * r + c]))
     });
-    row(
+    rows.row(
         "determinant",
         &matrices,
         |(bytes, _)| proved::determinant(bytes),
         |(_, matrix)| matrix.determinant(),
     );
+}
 
-    #[cfg(feature = "arms")]
-    arms::rows(&mut draw);
+#[cfg(test)]
+mod tests {
+    use super::*;
+
+    #[test]
+    fn wishes_are_read() {
+        assert_eq!(wish(&[]), Ok(Wish::Time(String::new())));
+        assert_eq!(wish(&["sin"]), Ok(Wish::Time("sin".to_string())));
+        assert_eq!(wish(&["--list"]), Ok(Wish::List));
+        let once = Wish::Once("frames, 7 joints".to_string(), 12);
+        assert_eq!(wish(&["--once", "frames, 7 joints", "12"]), Ok(once));
+        assert!(wish(&["--once", "sin"]).is_err());
+        assert!(wish(&["--once", "sin", "often"]).is_err());
+        assert!(wish(&["--nothing"]).is_err());
+        assert!(wish(&["sin", "cos"]).is_err());
+    }
+
+    /// A row is asked as often as was wished, and no other one.
+    #[test]
+    fn once_asks_one_row() {
+        let asked = std::cell::Cell::new(0);
+        let proved = |x: &f64| {
+            asked.set(asked.get() + 1);
+            *x
+        };
+        let mut rows = Rows {
+            wish: Wish::Once("this".to_string(), 5),
+            found: false,
+        };
+        rows.row("this one not", &[1.0, 2.0], proved, |x| *x);
+        assert!(!rows.found && asked.get() == 0);
+        rows.row("this", &[1.0, 2.0], proved, |x| *x);
+        assert!(rows.found && asked.get() == 5);
+    }
 }

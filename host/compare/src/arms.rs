@@ -1,4 +1,4 @@
-//! The byte calls on arms. A case is compared whole: the number answered, what
+//! The byte calls. A case is compared whole: the number answered, what
 //! the outputs hold, and every byte that the call was to leave alone, which is
 //! what it reads, the outputs' tails, a refused call's outputs, and the bytes
 //! between the lists.
@@ -6,15 +6,22 @@
 use crate::draw::Draw;
 use crate::run::{matches, Kind, Run};
 use crate::sheets::{damages, refused_shape, shape, Damage, Fit, List, Lists, Shape, CODES};
-use proved::arms;
+#[cfg(feature = "objective")]
+use proved::objective;
+use proved::{arms, put_floats, put_u16s};
+use reference::groove::objective_master::ObjectiveMaster;
 use reference::groove::vars::RelaxedIKVars;
-use reference::refusals::{self, f64s, u16s, Room};
+use reference::record::record;
+use reference::refusals::{self, f64s, u16s, RecordRoom, Room};
 use reference::sheet;
 use std::fmt::Write as _;
 use std::ops::Range;
 
+// The reference answers every call; the feature says which ones the library
+// has.
+#[cfg_attr(not(feature = "objective"), allow(dead_code))]
 #[derive(Clone, Copy, Debug, PartialEq)]
-enum Call {
+pub enum Call {
     Load,
     SetGoals,
     Frames,
@@ -22,10 +29,14 @@ enum Call {
     Manipulability,
     Reset,
     Update,
+    Objective,
+    Gradient,
+    GradientFiniteDiff,
+    GradientOneBlock,
 }
 
 pub fn kinds() -> Vec<Kind> {
-    let kind = |name, about, run| Kind { name, about, run };
+    let kind = Kind::new;
     vec![
         kind("load", "loading arms", |run| all(run, Call::Load)),
         kind("set_goals", "setting goals", |run| all(run, Call::SetGoals)),
@@ -45,12 +56,13 @@ pub fn kinds() -> Vec<Kind> {
 
 impl Call {
     /// The lists it reads, the sheet's four first.
-    fn read(self) -> &'static [List] {
+    pub fn read(self) -> &'static [List] {
         use List::{Codes, Floats, Goals, History, Joints, Limits, Sizes};
         match self {
             Call::Load => &[Sizes, Codes, Floats, Limits],
             Call::SetGoals => &[Sizes, Codes, Floats, Limits, Goals],
             Call::Update => &[Sizes, Codes, Floats, Limits, History, Joints],
+            _ if self.aims() => &[Sizes, Codes, Floats, Limits, Goals, History, Joints],
             _ => &[Sizes, Codes, Floats, Limits, Joints],
         }
     }
@@ -60,9 +72,26 @@ impl Call {
         &self.read()[4..]
     }
 
-    /// Floats that its outputs need for lists of these counts.
+    /// Whether it looks how far joints are from goals and history.
+    fn aims(self) -> bool {
+        matches!(
+            self,
+            Call::Objective | Call::Gradient | Call::GradientFiniteDiff | Call::GradientOneBlock
+        )
+    }
+
+    /// Draws its own lists anew.
+    pub fn renew(self, lists: &mut Lists, draw: &mut Draw) {
+        lists.renew(self.own(), draw);
+        if self.aims() {
+            lists.aim(draw);
+        }
+    }
+
+    /// Numbers that its outputs need for lists of these counts.
     fn needs(self, lists: &Lists) -> Vec<usize> {
         let (chains, links, joints) = (lists.chains, lists.links, lists.joints);
+        let walked = lists.walked;
         match self {
             Call::Load | Call::SetGoals => vec![],
             Call::Frames => vec![3 * (links + chains), 4 * (links + 2 * chains)],
@@ -70,11 +99,22 @@ impl Call {
             Call::Manipulability => vec![1],
             Call::Reset => vec![4 * joints, 7 * chains],
             Call::Update => vec![4 * joints],
+            Call::Objective => vec![1],
+            Call::Gradient | Call::GradientFiniteDiff => vec![joints, 1, joints],
+            Call::GradientOneBlock => vec![1, joints, walked, walked, 7 * walked],
+        }
+    }
+
+    /// Bytes of an output's numbers: the record's joints and links are u16s.
+    fn unit(self, output: usize) -> usize {
+        match (self, output) {
+            (Call::GradientOneBlock, 2 | 3) => 2,
+            _ => 8,
         }
     }
 
     /// The proved library's answer.
-    fn ask(self, read: &[&[u8]], write: &mut [&mut [u8]]) -> u32 {
+    pub fn ask(self, read: &[&[u8]], write: &mut [&mut [u8]]) -> u32 {
         let [sizes, codes, floats, limits, own @ ..] = read else {
             panic!("a sheet has four lists");
         };
@@ -96,7 +136,57 @@ impl Call {
             (Call::Update, [history, joints], [renewed]) => {
                 arms::update(sheet, history, joints, renewed)
             }
+            #[cfg(feature = "objective")]
+            (_, [goals, history, joints], write) => {
+                let given = objective::Given {
+                    sheet,
+                    goals,
+                    history,
+                };
+                self.ask_given(given, joints, write)
+            }
             _ => panic!("lists that do not belong to {self:?}"),
+        }
+    }
+
+    #[cfg(feature = "objective")]
+    fn ask_given(self, given: objective::Given, joints: &[u8], write: &mut [&mut [u8]]) -> u32 {
+        match (self, write) {
+            (Call::Objective, [value]) => objective::objective(given, joints, value),
+            (Call::Gradient, [scratch, value, slopes]) => {
+                objective::gradient(given, joints, scratch, value, slopes)
+            }
+            (Call::GradientFiniteDiff, [scratch, value, slopes]) => {
+                objective::gradient_finite_diff(given, joints, scratch, value, slopes)
+            }
+            (Call::GradientOneBlock, [value, slopes, raised, links, poses]) => {
+                let record = objective::Record {
+                    joints: raised,
+                    links,
+                    poses,
+                };
+                objective::gradient_one_block(given, joints, value, slopes, record)
+            }
+            _ => panic!("lists that do not belong to {self:?}"),
+        }
+    }
+}
+
+/// What a call writes to one of its outputs.
+#[derive(Debug)]
+enum Written {
+    Floats(Vec<f64>),
+    U16s(Vec<u16>),
+}
+
+use Written::{Floats, U16s};
+
+impl Written {
+    /// In place of what `bytes` held.
+    fn put(&self, bytes: &mut Vec<u8>) {
+        match self {
+            Floats(floats) => put_floats(floats, bytes),
+            U16s(numbers) => put_u16s(numbers, bytes),
         }
     }
 }
@@ -109,24 +199,39 @@ struct Judge {
     codes: Vec<u16>,
     floats: Vec<f64>,
     limits: Vec<f64>,
-    own: [Vec<f64>; 2],
-    made: Option<RelaxedIKVars>,
+    own: [Vec<f64>; 3],
+    made: Option<Made>,
     made_from: [Vec<u8>; 4],
+}
+
+/// The published structures for a sheet; the master once it is asked for.
+struct Made {
+    vars: RelaxedIKVars,
+    master: Option<ObjectiveMaster>,
 }
 
 impl Judge {
     /// The number, and what is written if that is 0.
-    fn answer(&mut self, call: Call, read: &[&[u8]], rooms: &[usize]) -> (u32, Vec<Vec<f64>>) {
+    fn answer(&mut self, call: Call, read: &[&[u8]], rooms: &[usize]) -> (u32, Vec<Written>) {
         let sheet = refusals::Sheet {
             sizes: u16s(read[0], &mut self.sizes),
             codes: u16s(read[1], &mut self.codes),
             floats: f64s(read[2], &mut self.floats),
             limits: f64s(read[3], &mut self.limits),
         };
-        let [first, second] = &mut self.own;
+        let [first, second, third] = &mut self.own;
         let first = f64s(read.get(4).unwrap_or(&&[][..]), first);
         let second = f64s(read.get(5).unwrap_or(&&[][..]), second);
-        let room = |at: usize| Room::of_bytes(rooms[at]);
+        let third = f64s(read.get(6).unwrap_or(&&[][..]), third);
+        let given = refusals::Given {
+            sheet,
+            goals: first,
+            history: second,
+        };
+        let room = |at: usize| match call.unit(at) {
+            2 => Room::of_u16_bytes(rooms[at]),
+            _ => Room::of_bytes(rooms[at]),
+        };
         let answer = match call {
             Call::Load => refusals::load(&sheet),
             Call::SetGoals => refusals::set_goals(&sheet, first),
@@ -135,6 +240,18 @@ impl Judge {
             Call::Manipulability => refusals::manipulability(&sheet, first, room(0)),
             Call::Reset => refusals::reset(&sheet, first, room(0), room(1)),
             Call::Update => refusals::update(&sheet, first, second, room(0)),
+            Call::Objective => refusals::objective(&given, third, room(0)),
+            Call::Gradient | Call::GradientFiniteDiff => {
+                refusals::gradient(&given, third, room(0), room(1), room(2))
+            }
+            Call::GradientOneBlock => {
+                let record = RecordRoom {
+                    joints: room(2),
+                    links: room(3),
+                    poses: room(4),
+                };
+                refusals::gradient_one_block(&given, third, room(0), room(1), record)
+            }
         };
         if answer != refusals::ACCEPTED || rooms.is_empty() {
             return (answer, Vec::new());
@@ -142,17 +259,26 @@ impl Judge {
         if self.made_from.iter().zip(read).any(|(a, b)| a != b) {
             self.made = None;
         }
-        let vars = self.made.get_or_insert_with(|| {
+        let Made { vars, master } = self.made.get_or_insert_with(|| {
             for (kept, list) in self.made_from.iter_mut().zip(read) {
                 kept.clear();
                 kept.extend_from_slice(list);
             }
             let robot = sheet::robot(&self.sizes, &self.codes, &self.floats, &self.limits);
-            sheet::loaded(robot)
+            Made {
+                vars: sheet::loaded(robot),
+                master: None,
+            }
         });
-        let (first, second) = (first.numbers, second.numbers);
+        let (first, second, third) = (first.numbers, second.numbers, third.numbers);
+        if call.aims() {
+            sheet::set_goals(vars, first);
+            sheet::set_history(vars, second);
+            let master = master
+                .get_or_insert_with(|| ObjectiveMaster::relaxed_ik(&vars.robot.chain_lengths));
+            return (answer, aimed(call, master, vars, third));
+        }
         let written = match call {
-            Call::Load | Call::SetGoals => Vec::new(),
             Call::Frames => {
                 let (positions, rotations) = sheet::frames(&vars.robot, first);
                 vec![positions, rotations]
@@ -168,8 +294,35 @@ impl Judge {
                 vars.update(second.to_vec());
                 vec![sheet::history(vars)]
             }
+            _ => Vec::new(),
         };
-        (answer, written)
+        (answer, written.into_iter().map(Floats).collect())
+    }
+}
+
+/// What the calls on goals and history write at these joints. The one-block
+/// gradient is judged by `gradient` and by walks of separate copies.
+fn aimed(call: Call, master: &ObjectiveMaster, vars: &RelaxedIKVars, x: &[f64]) -> Vec<Written> {
+    let two_blocks = |(value, slopes): (f64, Vec<f64>)| {
+        // The scratch list ends equal to the joints.
+        vec![Floats(x.to_vec()), Floats(vec![value]), Floats(slopes)]
+    };
+    match call {
+        Call::Objective => vec![Floats(vec![master.call(x, vars)])],
+        Call::Gradient => two_blocks(master.gradient(x, vars)),
+        Call::GradientFiniteDiff => two_blocks(master.gradient_finite_diff(x, vars)),
+        Call::GradientOneBlock => {
+            let (value, slopes) = master.gradient(x, vars);
+            let record = record(&vars.robot, x);
+            vec![
+                Floats(vec![value]),
+                Floats(slopes),
+                U16s(record.joints),
+                U16s(record.links),
+                Floats(record.poses),
+            ]
+        }
+        _ => panic!("{call:?} looks at no goals"),
     }
 }
 
@@ -240,6 +393,8 @@ struct Trial {
     read_before: Vec<u8>,
     write: Memory,
     expected: Vec<u8>,
+    /// One output's part of it.
+    part: Vec<u8>,
 }
 
 impl Trial {
@@ -251,47 +406,60 @@ impl Trial {
             read_before: Vec::new(),
             write: Memory::default(),
             expected: Vec::new(),
+            part: Vec::new(),
         }
     }
 
     fn check(&mut self, run: &mut Run, lists: &Lists, rooms: &[usize]) {
-        self.read.clear();
-        for &list in self.call.read() {
-            self.read.add(lists.get(list), &mut run.draw);
-        }
-        self.read.gap(&mut run.draw);
-        self.read_before.clone_from(&self.read.bytes);
-        self.write.clear();
-        for &length in rooms {
-            self.write.add_room(length, &mut run.draw);
-        }
-        self.write.gap(&mut run.draw);
-
-        let (number, written) = self.judge.answer(self.call, &self.read.lists(), rooms);
-        self.expected.clone_from(&self.write.bytes);
-        for (floats, place) in written.iter().zip(&self.write.places) {
-            assert!(8 * floats.len() <= place.len(), "room for what is written");
-            let places = self.expected[place.clone()].chunks_exact_mut(8);
-            for (place, float) in places.zip(floats) {
-                place.copy_from_slice(&float.to_le_bytes());
-            }
-        }
-
+        let (number, written) = self.prepare(&mut run.draw, lists, rooms);
         let answered = self.call.ask(&self.read.lists(), &mut self.write.rooms());
-        // The compiler may take it that nobody writes to what is only lent for
-        // reading; this is to find out.
-        let read = std::hint::black_box(&mut self.read.bytes);
-        let same = answered == number
-            && *read == self.read_before
-            && (self.write.bytes == self.expected || self.same_but_for_nans(&written));
+        let same = self.same(answered, number, &written);
         run.answer(number);
         run.case(same, || self.describe(answered, number));
     }
 
+    /// Lays the lists out, and what the outputs are to hold; answers as the
+    /// judge does.
+    fn prepare(&mut self, draw: &mut Draw, lists: &Lists, rooms: &[usize]) -> (u32, Vec<Written>) {
+        self.read.clear();
+        for &list in self.call.read() {
+            self.read.add(lists.get(list), draw);
+        }
+        self.read.gap(draw);
+        self.read_before.clone_from(&self.read.bytes);
+        self.write.clear();
+        for &length in rooms {
+            self.write.add_room(length, draw);
+        }
+        self.write.gap(draw);
+
+        let (number, written) = self.judge.answer(self.call, &self.read.lists(), rooms);
+        self.expected.clone_from(&self.write.bytes);
+        for (list, place) in written.iter().zip(&self.write.places) {
+            list.put(&mut self.part);
+            assert!(self.part.len() <= place.len(), "room for what is written");
+            self.expected[place.start..][..self.part.len()].copy_from_slice(&self.part);
+        }
+        (number, written)
+    }
+
+    /// Whether the call answered and left everything as it was to.
+    fn same(&mut self, answered: u32, number: u32, written: &[Written]) -> bool {
+        // The compiler may take it that nobody writes to what is only lent for
+        // reading; this is to find out.
+        let read = std::hint::black_box(&mut self.read.bytes);
+        answered == number
+            && *read == self.read_before
+            && (self.write.bytes == self.expected || self.same_but_for_nans(written))
+    }
+
     /// A NaN matches a NaN where a float is written, and nowhere else.
     #[cold]
-    fn same_but_for_nans(&mut self, written: &[Vec<f64>]) -> bool {
-        for (floats, place) in written.iter().zip(&self.write.places) {
+    fn same_but_for_nans(&mut self, written: &[Written]) -> bool {
+        for (list, place) in written.iter().zip(&self.write.places) {
+            let Floats(floats) = list else {
+                continue;
+            };
             for (at, &float) in floats.iter().enumerate() {
                 let here = place.start + 8 * at..place.start + 8 * at + 8;
                 let got = &self.write.bytes[here.clone()];
@@ -328,13 +496,14 @@ impl Trial {
         for (at, place) in self.write.places.iter().enumerate() {
             let _ = writeln!(text, "  output {at}, {} bytes", place.len());
             let both = |here: Range<usize>| (&self.write.bytes[here.clone()], &self.expected[here]);
-            for start in place.clone().step_by(8) {
-                let (got, wanted) = both(start..place.end.min(start + 8));
+            let unit = self.call.unit(at);
+            for start in place.clone().step_by(unit) {
+                let (got, wanted) = both(start..place.end.min(start + unit));
                 if got != wanted {
-                    let float = (start - place.start) / 8;
+                    let number = (start - place.start) / unit;
                     let _ = writeln!(
                         text,
-                        "    {float:<3} proved {}, reference {}",
+                        "    {number:<3} proved {}, reference {}",
                         shown(got),
                         shown(wanted)
                     );
@@ -352,19 +521,20 @@ impl Trial {
     }
 }
 
-/// Bits and value of a float; bytes that are none as they are.
+/// Bits and value of a float, or a u16; bytes that are neither as they are.
 fn shown(bytes: &[u8]) -> String {
-    match bytes.try_into() {
-        Ok(eight) => {
-            let v = f64::from_le_bytes(eight);
-            format!("{:016x} {v:e}", v.to_bits())
-        }
-        Err(_) => format!("{bytes:02x?}"),
+    if let Ok(eight) = bytes.try_into() {
+        let v = f64::from_le_bytes(eight);
+        format!("{:016x} {v:e}", v.to_bits())
+    } else if let Ok(two) = bytes.try_into() {
+        u16::from_le_bytes(two).to_string()
+    } else {
+        format!("{bytes:02x?}")
     }
 }
 
 /// Where drawn cases come from. A sheet serves for several of them.
-struct Source {
+pub struct Source {
     call: Call,
     damages: Vec<Damage>,
     base: Lists,
@@ -373,7 +543,7 @@ struct Source {
 }
 
 impl Source {
-    fn new(call: Call) -> Self {
+    pub fn new(call: Call) -> Self {
         Self {
             call,
             damages: damages(call.read()),
@@ -384,7 +554,7 @@ impl Source {
     }
 
     /// The next case's lists and the lengths of its outputs.
-    fn next(&mut self, draw: &mut Draw) -> (&Lists, Vec<usize>) {
+    pub fn next(&mut self, draw: &mut Draw) -> (&Lists, Vec<usize>) {
         if self.left == 0 {
             (self.base, self.left) = match draw.word() % 8 {
                 0 => (Lists::of(&refused_shape(draw), draw), 4),
@@ -394,27 +564,27 @@ impl Source {
         }
         self.left -= 1;
         self.lists.copy(&self.base);
-        self.lists.renew(self.call.own(), draw);
+        self.call.renew(&mut self.lists, draw);
         let faults = draw.pick(&[0, 0, 0, 0, 0, 1, 1, 2, 3]);
         for _ in 0..faults {
             let damage = draw.pick(&self.damages);
             self.lists.spoil(damage, draw);
         }
         let needs = self.call.needs(&self.lists);
-        let rooms = needs.into_iter().map(|floats| {
+        let rooms = needs.into_iter().enumerate().map(|(at, numbers)| {
             let fit = match draw.word() % 16 {
                 0 => draw.pick(&Fit::ALL),
                 1..=4 => Fit::Long,
                 _ => Fit::Exact,
             };
-            fit.bytes(floats)
+            fit.bytes(numbers, self.call.unit(at))
         });
         let rooms = rooms.collect();
         (&self.lists, rooms)
     }
 }
 
-fn all(run: &mut Run, call: Call) {
+pub fn all(run: &mut Run, call: Call) {
     let mut trial = Trial::new(call);
     named(run, &mut trial);
     every_code(run, &mut trial);
@@ -426,9 +596,17 @@ fn all(run: &mut Run, call: Call) {
     }
 }
 
-fn exact(call: Call, lists: &Lists) -> Vec<usize> {
-    let needs = call.needs(lists).into_iter();
-    needs.map(|floats| Fit::Exact.bytes(floats)).collect()
+pub fn exact(call: Call, lists: &Lists) -> Vec<usize> {
+    fitted(call, lists, &[])
+}
+
+/// Lengths of these fits, the remaining outputs exact.
+fn fitted(call: Call, lists: &Lists, fits: &[Fit]) -> Vec<usize> {
+    let fits = fits.iter().copied().chain(std::iter::repeat(Fit::Exact));
+    let needs = call.needs(lists).into_iter().zip(fits).enumerate();
+    needs
+        .map(|(at, (numbers, fit))| fit.bytes(numbers, call.unit(at)))
+        .collect()
 }
 
 /// Document 01's cases that are not proved, and shapes at the edge.
@@ -436,7 +614,7 @@ fn named(run: &mut Run, trial: &mut Trial) {
     let call = trial.call;
     let mut plain = |run: &mut Run, shape: &Shape, change: &dyn Fn(&mut Lists)| {
         let mut lists = Lists::plain(shape, &mut run.draw);
-        lists.renew(call.own(), &mut run.draw);
+        call.renew(&mut lists, &mut run.draw);
         change(&mut lists);
         trial.check(run, &lists, &exact(call, &lists));
     };
@@ -486,11 +664,11 @@ fn every_code(run: &mut Run, trial: &mut Trial) {
                 chain.splice(if front { 0..0 } else { 6..6 }, [a, b]);
                 let mut lists = Lists::still(&vec![chain.clone()], &mut run.draw);
                 for _ in 0..5 {
-                    lists.renew(call.own(), &mut run.draw);
+                    call.renew(&mut lists, &mut run.draw);
                     trial.check(run, &lists, &exact(call, &lists));
                 }
                 lists = Lists::of(&vec![chain], &mut run.draw);
-                lists.renew(call.own(), &mut run.draw);
+                call.renew(&mut lists, &mut run.draw);
                 for v in [8.0, -8.0, 0.0, -0.0, 0.5] {
                     if call.own().contains(&List::Joints) {
                         lists.set_floats(List::Joints, &vec![v; lists.joints]);
@@ -516,36 +694,48 @@ fn every_fault(run: &mut Run, trial: &mut Trial) {
     for shape in &shapes {
         let base = Lists::of(shape, &mut run.draw);
         let mut lists = Lists::default();
-        let mut check = |run: &mut Run, faults: &[Damage], fits: Option<[Fit; 2]>| {
+        let mut check = |run: &mut Run, faults: &[Damage], fits: &[Fit]| {
             lists.copy(&base);
             lists.renew(call.own(), &mut run.draw);
             for &fault in faults {
                 lists.spoil(fault, &mut run.draw);
             }
-            let fits = fits.unwrap_or([Fit::Exact; 2]);
-            let needs = call.needs(&lists).into_iter().zip(fits);
-            let rooms: Vec<usize> = needs.map(|(floats, fit)| fit.bytes(floats)).collect();
+            let rooms = fitted(call, &lists, fits);
             trial.check(run, &lists, &rooms);
         };
-        check(run, &[], None);
+        check(run, &[], &[]);
         for &fault in &damages {
-            check(run, &[fault], None);
+            check(run, &[fault], &[]);
             for &other in &damages {
-                check(run, &[fault, other], None);
+                check(run, &[fault, other], &[]);
             }
         }
-        if call.needs(&base).is_empty() {
-            continue;
+        for fits in fits(call.needs(&base).len()) {
+            check(run, &[], &fits);
+            for &fault in &damages {
+                check(run, &[fault], &fits);
+            }
         }
-        for first in Fit::ALL {
-            for second in Fit::ALL {
-                check(run, &[], Some([first, second]));
-                for &fault in &damages {
-                    check(run, &[fault], Some([first, second]));
+    }
+}
+
+/// Every two outputs of every length, the others exact.
+fn fits(outputs: usize) -> Vec<Vec<Fit>> {
+    let mut all = Vec::new();
+    // A single output is taken for one of two; the second fit finds no list.
+    let count = if outputs == 1 { 2 } else { outputs };
+    for later in 1..count {
+        for sooner in 0..later {
+            for first in Fit::ALL {
+                for second in Fit::ALL {
+                    let mut fits = vec![Fit::Exact; later + 1];
+                    (fits[sooner], fits[later]) = (first, second);
+                    all.push(fits);
                 }
             }
         }
     }
+    all
 }
 
 #[cfg(test)]
@@ -553,7 +743,7 @@ mod tests {
     use super::*;
     use std::collections::BTreeMap;
 
-    const CALLS: [Call; 7] = [
+    const CALLS: [Call; 11] = [
         Call::Load,
         Call::SetGoals,
         Call::Frames,
@@ -561,9 +751,20 @@ mod tests {
         Call::Manipulability,
         Call::Reset,
         Call::Update,
+        Call::Objective,
+        Call::Gradient,
+        Call::GradientFiniteDiff,
+        Call::GradientOneBlock,
     ];
 
-    /// Draws by the reference's answer, with what it would write.
+    fn floats(written: Written) -> Vec<f64> {
+        match written {
+            Floats(floats) => floats,
+            U16s(_) => panic!("no floats"),
+        }
+    }
+
+    /// Draws by the reference's answer, with what it would write last.
     fn drawn(call: Call, cases: usize) -> (BTreeMap<u32, usize>, Vec<Vec<f64>>) {
         let (mut draw, mut source) = (Draw::new(5), Source::new(call));
         let (mut judge, mut answers, mut last) = (Judge::default(), BTreeMap::new(), Vec::new());
@@ -573,7 +774,7 @@ mod tests {
             let read: Vec<&[u8]> = read.collect();
             let (number, written) = judge.answer(call, &read, &rooms);
             *answers.entry(number).or_default() += 1;
-            last.extend(written.into_iter().next_back());
+            last.extend(written.into_iter().next_back().map(floats));
         }
         (answers, last)
     }
@@ -583,15 +784,18 @@ mod tests {
     fn every_number_is_drawn() {
         for call in CALLS {
             let mut possible = vec![1, 2, 3, 4, 5, 6];
-            possible.extend((call == Call::SetGoals).then_some(8));
+            possible.extend(call.own().contains(&List::Goals).then_some(8));
             if call.own().contains(&List::Joints) {
                 possible.extend([7, 9]);
             }
-            let (answers, _) = drawn(call, 20_000);
+            // Slopes take their time.
+            let cases = if call.aims() { 4_000 } else { 20_000 };
+            let (answers, _) = drawn(call, cases);
             for number in &possible {
-                assert!(answers[number] > 100, "{call:?} {number}: {answers:?}");
+                let met = answers[number];
+                assert!(met > cases / 200, "{call:?} {number}: {answers:?}");
             }
-            assert!(answers[&0] > 8_000, "{call:?}: {answers:?}");
+            assert!(answers[&0] > cases * 2 / 5, "{call:?}: {answers:?}");
             assert_eq!(answers.len(), possible.len() + 1, "{call:?}");
         }
     }
@@ -604,17 +808,28 @@ mod tests {
         for _ in 0..300 {
             let mut lists = Lists::of(&shape(&mut draw), &mut draw);
             for call in CALLS {
-                lists.renew(call.own(), &mut draw);
+                call.renew(&mut lists, &mut draw);
                 let read = call.read().iter().map(|&list| lists.get(list));
                 let read: Vec<&[u8]> = read.collect();
                 let mut rooms = exact(call, &lists);
                 let (number, written) = judge.answer(call, &read, &rooms);
-                let lengths: Vec<usize> = written.iter().map(|list| 8 * list.len()).collect();
+                let mut bytes = Vec::new();
+                let lengths = written.iter().map(|list| {
+                    list.put(&mut bytes);
+                    bytes.len()
+                });
+                let lengths: Vec<usize> = lengths.collect();
                 assert_eq!((number, &lengths), (0, &rooms), "{call:?}");
                 for at in 0..rooms.len() {
-                    rooms[at] -= 8;
+                    let unit = call.unit(at);
+                    for change in [unit, 1] {
+                        rooms[at] -= change;
+                        assert_eq!(judge.answer(call, &read, &rooms).0, 9, "{call:?} {at}");
+                        rooms[at] += change;
+                    }
+                    rooms[at] += 1;
                     assert_eq!(judge.answer(call, &read, &rooms).0, 9, "{call:?} {at}");
-                    rooms[at] += 8;
+                    rooms[at] -= 1;
                 }
             }
         }
@@ -638,13 +853,67 @@ mod tests {
             trial.expected = expected.concat();
             // One float is written, the other one is the tail.
             let wanted = f64::from_le_bytes(expected[0]);
-            trial.same_but_for_nans(&[vec![wanted]])
+            trial.same_but_for_nans(&[Floats(vec![wanted])])
         };
         let [one, other] = nans;
         assert!(case([one, one], [other, one]));
         assert!(!case([one, other], [one, one]));
         assert!(!case([one, one], [0.0f64.to_le_bytes(), one]));
         assert!(!case([0.0f64.to_le_bytes(), one], [one, one]));
+    }
+
+    /// Far out the losses are all tail; a good part must lie near its goals,
+    /// and nothing that is taken makes a NaN.
+    #[test]
+    fn objectives_are_often_near_their_goals() {
+        let (_, values) = drawn(Call::Objective, 4_000);
+        let near = values.iter().filter(|v| v[0] < 0.0).count();
+        let middle = values.iter().filter(|v| (0.0..1e4).contains(&v[0])).count();
+        let far = values.len() - near - middle;
+        let least = values.len() / 20;
+        assert!(near > least, "{near}, {middle}, {far}");
+        assert!(middle > least && far > least, "{near}, {middle}, {far}");
+        assert!(values.iter().all(|v| v[0].is_finite()));
+    }
+
+    /// A case as a right call leaves it is found the same; one byte changed in
+    /// an output, a tail, a gap or a list that is read, or another number, is
+    /// found.
+    #[test]
+    fn one_wrong_byte_is_found() {
+        let mut draw = Draw::new(7);
+        for call in CALLS {
+            let (mut trial, mut source) = (Trial::new(call), Source::new(call));
+            for _ in 0..200 {
+                let (lists, rooms) = source.next(&mut draw);
+                let (number, written) = trial.prepare(&mut draw, lists, &rooms);
+                trial.write.bytes.clone_from(&trial.expected);
+                assert!(trial.same(number, number, &written), "{call:?}");
+                assert!(!trial.same(number + 1, number, &written), "{call:?}");
+                let at = draw.below(trial.expected.len());
+                trial.write.bytes[at] ^= 1;
+                let text = trial.describe(number, number);
+                assert!(!trial.same(number, number, &written), "{call:?}");
+                assert!(text.contains("proved") || text.contains("outside"));
+                trial.write.bytes[at] ^= 1;
+                let at = draw.below(trial.read_before.len());
+                trial.read.bytes[at] ^= 1;
+                assert!(!trial.same(number, number, &written), "{call:?}");
+            }
+        }
+    }
+
+    /// Every two outputs meet with every two fits.
+    #[test]
+    fn fits_come_in_pairs() {
+        assert!(fits(0).is_empty());
+        assert_eq!((fits(1).len(), fits(2).len()), (64, 64));
+        assert_eq!((fits(3).len(), fits(5).len()), (3 * 64, 10 * 64));
+        let all = fits(5);
+        assert!(all.iter().any(|fits| matches!(
+            fits[..],
+            [Fit::Exact, Fit::Short, Fit::Exact, Fit::Exact, Fit::Empty]
+        )));
     }
 
     #[test]

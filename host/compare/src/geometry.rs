@@ -8,7 +8,7 @@ use proved::Axis;
 use reference::spacetime::arm::{get_quat_x, get_quat_y, get_quat_z};
 
 pub fn kinds() -> Vec<Kind> {
-    let kind = |name, about, run| Kind { name, about, run };
+    let kind = Kind::new;
     vec![
         kind("quat_product", "quaternion product", quat_product),
         kind("quat_inverse", "quaternion inverse", quat_inverse),

@@ -7,11 +7,15 @@
 mod arms;
 mod draw;
 mod geometry;
+#[cfg(feature = "objective")]
+mod losses;
 mod matrices;
 mod numbers;
 mod run;
 #[cfg(feature = "arms")]
 mod sheets;
+#[cfg(feature = "objective")]
+mod slopes;
 
 use run::{Kind, Run};
 use std::process::ExitCode;
@@ -19,7 +23,8 @@ use std::process::ExitCode;
 const USAGE: &str = "\
 compare [--cases N] [--seed S] [--only NAME] [--list]
 
-  --cases N    drawn cases for each name (default 1000000), besides its edges
+  --cases N    drawn cases for each name (default 1000000), besides its edges;
+               a slow name draws fewer, as --list shows
   --seed S     seed of the draws (default 1)
   --only NAME  this name alone
   --list       the names, and nothing is run";
@@ -66,6 +71,11 @@ fn kinds() -> Vec<Kind> {
     all.extend(matrices::kinds());
     #[cfg(feature = "arms")]
     all.extend(arms::kinds());
+    #[cfg(feature = "objective")]
+    {
+        all.extend(losses::kinds());
+        all.extend(slopes::kinds());
+    }
     all
 }
 
@@ -96,7 +106,11 @@ fn main() -> ExitCode {
     }
     if options.list {
         for kind in &kinds {
-            println!("{:<18} {}", kind.name, kind.about);
+            let share = match kind.divisor {
+                1 => String::new(),
+                n => format!(", one draw in {n}"),
+            };
+            println!("{:<20} {}{share}", kind.name, kind.about);
         }
         return ExitCode::SUCCESS;
     }
@@ -107,13 +121,17 @@ fn main() -> ExitCode {
     let (mut passed, mut failed) = (0, 0);
     for (at, kind) in kinds.iter().enumerate() {
         let label = format!("{} ({} of {})", kind.name, at + 1, kinds.len());
-        let mut run = Run::new(seed_for(kind.name, options.seed), label, options.cases);
+        let draws = kind.draws(options.cases);
+        let mut run = Run::new(seed_for(kind.name, options.seed), label, draws);
         (kind.run)(&mut run);
         let outcome = run.finish();
         println!(
-            "{:<18} {:>10} cases {:>8} differences {:>8.2} s",
+            "{:<20} {:>10} cases {:>8} differences {:>8.2} s",
             kind.name, outcome.cases, outcome.differences, outcome.seconds
         );
+        if kind.divisor > 1 {
+            println!("  slow: one draw in {}, which is {draws}", kind.divisor);
+        }
         if !outcome.answers.is_empty() {
             let counts = outcome.answers.iter();
             let counts: Vec<String> = counts.map(|(n, count)| format!("{n}: {count}")).collect();

@@ -9,7 +9,7 @@ const SIDE: usize = 6;
 const MOST_COLUMNS: usize = 16;
 
 pub fn kinds() -> Vec<Kind> {
-    let kind = |name, about, run| Kind { name, about, run };
+    let kind = Kind::new;
     vec![
         kind("determinant", "determinant of a 6 by 6 matrix", determinant),
         kind("gram", "an entry of J times J transposed", gram),

@@ -5,7 +5,7 @@ use crate::run::{Kind, Run};
 use standins::{atan2, b, cos, cut, exp, powi, sin};
 
 pub fn kinds() -> Vec<Kind> {
-    let kind = |name, about, run| Kind { name, about, run };
+    let kind = Kind::new;
     vec![
         kind("sqrt", "square root, against the machine's own", sqrt),
         kind("sin", "sine", |run| one(run, half_angle, proved::sin, sin)),

@@ -12,6 +12,30 @@ pub struct Kind {
     pub name: &'static str,
     pub about: &'static str,
     pub run: fn(&mut Run),
+    /// A slow call's draws are the number asked for divided by this, so that
+    /// it takes no longer than the others.
+    pub divisor: u64,
+}
+
+impl Kind {
+    pub fn new(name: &'static str, about: &'static str, run: fn(&mut Run)) -> Self {
+        Self {
+            name,
+            about,
+            run,
+            divisor: 1,
+        }
+    }
+
+    #[cfg(feature = "objective")]
+    pub fn divided(self, divisor: u64) -> Self {
+        Self { divisor, ..self }
+    }
+
+    /// Draws when so many are asked for.
+    pub fn draws(&self, asked: u64) -> u64 {
+        asked.div_ceil(self.divisor)
+    }
 }
 
 /// Differences printed in full; the rest are counted.
@@ -218,6 +242,15 @@ mod tests {
         assert_eq!(outcome.shown.len(), SHOWN);
         assert!(outcome.shown[0].contains("3ff0000000000000"));
         assert!(outcome.shown[0].contains("bff0000000000000"));
+    }
+
+    /// Some are drawn if any are asked for.
+    #[test]
+    fn a_slow_kind_draws_its_share() {
+        let mut kind = Kind::new("test", "a test", |_| {});
+        assert_eq!(kind.draws(7), 7);
+        kind.divisor = 3;
+        assert_eq!([0, 1, 3, 7].map(|asked| kind.draws(asked)), [0, 1, 1, 3]);
     }
 
     #[test]

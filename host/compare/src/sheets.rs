@@ -3,6 +3,8 @@
 
 use crate::draw::Draw;
 use proved::{put_floats, put_u16s};
+use reference::refusals::{self, f64s, u16s};
+use reference::sheet;
 
 /// The lists that are read, in the order of the byte calls.
 #[derive(Clone, Copy, Debug, PartialEq)]
@@ -37,6 +39,8 @@ pub struct Lists {
     pub chains: usize,
     pub links: usize,
     pub joints: usize,
+    /// Links that the one-block gradient walks.
+    pub walked: usize,
     /// Whether joints are mostly zeros, to go with a sheet of zeros.
     still: bool,
 }
@@ -56,6 +60,7 @@ impl Lists {
             to.clone_from(from);
         }
         (self.chains, self.links, self.joints) = (other.chains, other.links, other.joints);
+        self.walked = other.walked;
         self.still = other.still;
     }
 
@@ -98,6 +103,7 @@ impl Lists {
             chains: shape.len(),
             links: codes.len(),
             joints,
+            walked: codes.len() + shape.iter().map(|chain| again(chain)).sum::<usize>(),
             ..Self::default()
         };
         put_u16s(&sizes, &mut lists.bytes[Sizes as usize]);
@@ -128,6 +134,50 @@ impl Lists {
                 push(bytes, &[value]);
             }
         }
+    }
+
+    /// Brings joints, history and goals near each other. Drawn apart, most
+    /// losses lie far out, where their exponential is 0. A sheet that is
+    /// refused stays as it is.
+    pub fn aim(&mut self, draw: &mut Draw) {
+        let (mut sizes, mut codes) = (Vec::new(), Vec::new());
+        let (mut floats, mut limits) = (Vec::new(), Vec::new());
+        let (mut joints, mut goals) = (Vec::new(), Vec::new());
+        let sheet = refusals::Sheet {
+            sizes: u16s(self.get(Sizes), &mut sizes),
+            codes: u16s(self.get(Codes), &mut codes),
+            floats: f64s(self.get(Floats), &mut floats),
+            limits: f64s(self.get(Limits), &mut limits),
+        };
+        if refusals::load(&sheet) != refusals::ACCEPTED {
+            return;
+        }
+        f64s(self.get(Joints), &mut joints);
+        f64s(self.get(Goals), &mut goals);
+        if draw.word() % 2 == 0 {
+            for (joint, pair) in joints.iter_mut().zip(limits.chunks_exact(2)) {
+                if draw.word() % 4 != 0 {
+                    *joint = between_limits(draw, pair[0], pair[1]);
+                }
+            }
+            self.set_floats(Joints, &joints);
+        }
+        if draw.word() % 4 != 0 {
+            self.set_floats(History, &recent(draw, &joints));
+        }
+        let robot = sheet::robot(&sizes, &codes, &floats, &limits);
+        let at = match draw.word() % 2 {
+            0 => joints,
+            _ => beside(draw, &joints, 0.1),
+        };
+        let ends = sheet::ends(&robot, &at);
+        for (goal, end) in goals.chunks_exact_mut(13).zip(ends.chunks_exact(7)) {
+            if draw.word() % 4 != 0 {
+                goal[..7].copy_from_slice(&near_goal(draw, end));
+            }
+            goal[7..].fill_with(|| tolerance(draw));
+        }
+        self.set_floats(Goals, &goals);
     }
 
     /// Puts floats at a place, as far as the list reaches.
@@ -206,6 +256,12 @@ impl Lists {
             }
         }
     }
+}
+
+/// From each joint's link to the chain's end, all counted.
+fn again(chain: &[u16]) -> usize {
+    let joints = chain.iter().enumerate().filter(|(_, &code)| code != 0);
+    joints.map(|(at, _)| chain.len() - at).sum()
 }
 
 fn push(bytes: &mut Vec<u8>, floats: &[f64]) {
@@ -362,15 +418,17 @@ impl Fit {
         Self::Empty,
     ];
 
-    pub fn bytes(self, floats: usize) -> usize {
+    /// For so many numbers of so many bytes each.
+    pub fn bytes(self, numbers: usize, unit: usize) -> usize {
+        let exact = unit * numbers;
         match self {
-            Self::Exact => 8 * floats,
-            Self::Long => 8 * floats + 8,
-            Self::Longer => 8 * floats + 40,
-            Self::Short => (8 * floats).saturating_sub(8),
-            Self::ByteLess => (8 * floats).saturating_sub(1),
-            Self::ByteMore => 8 * floats + 1,
-            Self::FourMore => 8 * floats + 4,
+            Self::Exact => exact,
+            Self::Long => exact + unit,
+            Self::Longer => exact + 5 * unit,
+            Self::Short => exact.saturating_sub(unit),
+            Self::ByteLess => exact.saturating_sub(1),
+            Self::ByteMore => exact + 1,
+            Self::FourMore => exact + 4,
             Self::Empty => 0,
         }
     }
@@ -696,10 +754,85 @@ fn goal(draw: &mut Draw) -> [f64; 13] {
     goal
 }
 
+/// Inside, at an end, or a little beyond, as far as joints go.
+fn between_limits(draw: &mut Draw, lower: f64, upper: f64) -> f64 {
+    let at = match draw.word() % 4 {
+        0 => draw.pick(&[lower, upper]),
+        1 => lower + (upper - lower) * draw.between(-0.05, 1.05),
+        _ => draw.between(lower, upper),
+    };
+    at.clamp(-8.0, 8.0)
+}
+
+/// The joints moved by up to so much.
+fn beside(draw: &mut Draw, joints: &[f64], size: f64) -> Vec<f64> {
+    let move_one = |&joint: &f64| (joint + draw.between(-size, size)).clamp(-8.0, 8.0);
+    joints.iter().map(move_one).collect()
+}
+
+/// A history that leads to these joints: at rest, or by steps of a size.
+fn recent(draw: &mut Draw, joints: &[f64]) -> Vec<f64> {
+    if draw.word() % 8 == 0 {
+        return joints.repeat(4);
+    }
+    let size = draw.pick(&[1e-9, 1e-6, 1e-3, 0.01, 0.05, 0.2]);
+    let mut history = Vec::new();
+    let mut block = joints.to_vec();
+    for _ in 0..4 {
+        block = beside(draw, &block, size);
+        history.extend_from_slice(&block);
+    }
+    history
+}
+
+/// An end pose, moved or not, turned or not, of either sign.
+fn near_goal(draw: &mut Draw, end: &[f64]) -> [f64; 7] {
+    let size = draw.pick(&[0.0, 0.0, 1e-9, 1e-3, 0.01, 0.1, 1.0]);
+    let mut goal = [0.0; 7];
+    goal.copy_from_slice(end);
+    for part in &mut goal[..3] {
+        // Nothing is added for no size: a zero keeps its sign.
+        if size > 0.0 {
+            *part += draw.between(-size, size);
+        }
+        *part = part.clamp(-100.0, 100.0);
+    }
+    let mut q = [goal[3], goal[4], goal[5], goal[6]];
+    if size > 0.0 && draw.word() % 2 == 0 {
+        q = q.map(|c| c + draw.between(-size, size));
+    }
+    // What many offsets make of a turn may be none any more.
+    if !is_turn(q) {
+        let length = (q[0] * q[0] + q[1] * q[1] + q[2] * q[2] + q[3] * q[3]).sqrt();
+        q = q.map(|c| c / length);
+    }
+    if draw.word() % 4 == 0 {
+        q = q.map(|c| -c);
+    }
+    goal[3..].copy_from_slice(if is_turn(q) { &q } else { &IDENTITY });
+    goal
+}
+
+/// Of all three kinds, with the neighbours of where the kind changes.
+#[allow(clippy::approx_constant)]
+fn tolerance(draw: &mut Draw) -> f64 {
+    let (groove, swamp) = (0.01f64, 3.14159260f64);
+    match draw.word() % 8 {
+        0 => draw.pick(&[0.0, -0.0, groove, -1.0, -100.0]),
+        1 => draw.pick(&[groove, groove.next_down(), groove.next_up()]),
+        2 => draw.pick(&[swamp, swamp.next_down(), swamp.next_up()]),
+        3 => draw.pick(&[100.0, 3.2, std::f64::consts::PI]),
+        4 => draw.between(groove, 0.1),
+        5 => draw.between(groove, swamp),
+        6 => draw.between(-groove, groove),
+        _ => draw.between(groove, 100.0),
+    }
+}
+
 #[cfg(test)]
 mod tests {
     use super::*;
-    use reference::refusals::{f64s, load, u16s, Sheet};
+    use reference::refusals::{load, Sheet};
 
     fn loaded(lists: &Lists) -> u32 {
         let (mut sizes, mut codes) = (Vec::new(), Vec::new());
@@ -767,6 +900,44 @@ mod tests {
             assert!(upper - lower < 0.001, "{lower:e} {upper:e}");
             assert!(upper.next_up() - lower >= 0.001, "{lower:e} {upper:e}");
         }
+    }
+
+    /// What is brought near is still taken.
+    #[test]
+    fn aimed_lists_are_taken() {
+        let mut draw = Draw::new(2);
+        let mut kinds = [0; 3];
+        for _ in 0..5_000 {
+            let shape = shape(&mut draw);
+            let mut lists = match draw.word() % 4 {
+                0 => Lists::still(&shape, &mut draw),
+                _ => Lists::of(&shape, &mut draw),
+            };
+            lists.renew(&[Goals, History, Joints], &mut draw);
+            lists.aim(&mut draw);
+            let (mut sizes, mut codes) = (Vec::new(), Vec::new());
+            let (mut floats, mut limits) = (Vec::new(), Vec::new());
+            let (mut goals, mut history, mut joints) = (Vec::new(), Vec::new(), Vec::new());
+            let given = refusals::Given {
+                sheet: Sheet {
+                    sizes: u16s(lists.get(Sizes), &mut sizes),
+                    codes: u16s(lists.get(Codes), &mut codes),
+                    floats: f64s(lists.get(Floats), &mut floats),
+                    limits: f64s(lists.get(Limits), &mut limits),
+                },
+                goals: f64s(lists.get(Goals), &mut goals),
+                history: f64s(lists.get(History), &mut history),
+            };
+            let joints = f64s(lists.get(Joints), &mut joints);
+            let value = refusals::Room::of(1);
+            assert_eq!(refusals::objective(&given, joints, value), 0, "{shape:?}");
+            for &t in goals.chunks_exact(13).flat_map(|goal| &goal[7..]) {
+                #[allow(clippy::approx_constant)]
+                let kind = usize::from(t > 0.01) + usize::from(t >= 3.14159260);
+                kinds[kind] += 1;
+            }
+        }
+        assert!(kinds.iter().all(|&met| met > 10_000), "{kinds:?}");
     }
 
     #[test]

@@ -120,8 +120,8 @@ pub struct Sheet<'a> {
 // a byte with another and nobody else writes to one while the call runs. The
 // library keeps no pointer.
 
-/// Names the call, then the sheet's lists and the call's own, each as pointer
-/// and length.
+/// Names a call of the module's own `c`, then the sheet's lists and the call's
+/// own, each as pointer and length.
 macro_rules! call {
     ($name:ident, $sheet:expr $(, read $read:expr)* $(, write $write:expr)*) => {
         unsafe {
@@ -140,6 +140,9 @@ macro_rules! call {
         }
     };
 }
+
+#[cfg(feature = "objective")]
+pub(crate) use call;
 
 pub fn load(sheet: Sheet) -> u32 {
     call!(relaxed_ik_load, sheet)

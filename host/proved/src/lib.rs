@@ -1,13 +1,16 @@
 //! The proved static library from Rust: the C declarations and a safe function
-//! for each. All of the host's unsafe code is in this crate. Nothing checks the
-//! declarations against the library's source, so they are to be read beside
-//! it.
+//! for each. `header` compares the declarations with the library's source by
+//! types and their order; the names of parameters are ours.
 //!
 //! Quaternions are w, i, j, k; vectors x, y, z. A function of several parts is
 //! asked for one part a call.
 
 #[cfg(feature = "arms")]
 pub mod arms;
+#[cfg(feature = "objective")]
+pub mod losses;
+#[cfg(feature = "objective")]
+pub mod objective;
 
 mod c {
     extern "C" {

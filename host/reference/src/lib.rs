@@ -1,8 +1,9 @@
 //! The published files of relaxed_ik_core (commit 1c48d2ae40, MIT, see
 //! LICENSE), run on document 01's stand-ins. README.md lists every place where
-//! a file differs from the published one. `sheet` and `refusals` are ours: one
-//! makes the published structures from plain numbers, the other says which
-//! numbers document 01 refuses.
+//! a file differs from the published one. `sheet`, `refusals`, `record` and
+//! `losses` are ours: the first makes the published structures from plain
+//! numbers, the second says which numbers document 01 refuses, the third walks
+//! its separate copies, the last asks the objectives for single losses.
 
 #![forbid(unsafe_code)]
 // The published files are left as they are written.
@@ -27,6 +28,10 @@ pub mod utils_rust {
     pub mod transformations;
 }
 
+#[warn(dead_code, non_snake_case, unused, clippy::all)]
+pub mod losses;
+#[warn(dead_code, non_snake_case, unused, clippy::all)]
+pub mod record;
 #[warn(dead_code, non_snake_case, unused, clippy::all)]
 pub mod refusals;
 #[warn(dead_code, non_snake_case, unused, clippy::all)]

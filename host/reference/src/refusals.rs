@@ -31,31 +31,40 @@ impl<'a, T> List<'a, T> {
     }
 }
 
-/// A list that is written: how many floats it takes.
+/// A list that is written: how many floats it takes, or u16s.
 #[derive(Clone, Copy, Debug)]
 pub struct Room {
-    pub floats: usize,
+    pub numbers: usize,
     pub ragged: bool,
 }
 
 impl Room {
-    pub fn of(floats: usize) -> Self {
+    pub fn of(numbers: usize) -> Self {
         Self {
-            floats,
+            numbers,
             ragged: false,
         }
     }
 
+    /// For floats.
     pub fn of_bytes(bytes: usize) -> Self {
+        Self::of_units(bytes, 8)
+    }
+
+    pub fn of_u16_bytes(bytes: usize) -> Self {
+        Self::of_units(bytes, 2)
+    }
+
+    fn of_units(bytes: usize, unit: usize) -> Self {
         Self {
-            floats: bytes / 8,
-            ragged: bytes % 8 != 0,
+            numbers: bytes / unit,
+            ragged: bytes % unit != 0,
         }
     }
 
     /// Longer will do, ragged never.
-    fn holds(&self, floats: usize) -> bool {
-        !self.ragged && self.floats >= floats
+    fn holds(&self, numbers: usize) -> bool {
+        !self.ragged && self.numbers >= numbers
     }
 }
 
@@ -112,6 +121,36 @@ impl Sheet<'_> {
     fn all_joints(&self) -> usize {
         self.joints().sum()
     }
+
+    /// Links that the one-block call walks: all of them once, then for each
+    /// joint those from its link to its chain's end.
+    fn walked(&self) -> usize {
+        let mut codes = self.codes.numbers;
+        let mut again = 0;
+        for links in self.links() {
+            let (chain, rest) = codes.split_at(links);
+            let joints = chain.iter().enumerate().filter(|(_, &code)| code != 0);
+            again += joints.map(|(at, _)| links - at).sum::<usize>();
+            codes = rest;
+        }
+        self.all_links() + again
+    }
+}
+
+/// What the objective and its slopes are lent besides the joints.
+#[derive(Clone, Copy, Debug)]
+pub struct Given<'a> {
+    pub sheet: Sheet<'a>,
+    pub goals: List<'a, f64>,
+    pub history: List<'a, f64>,
+}
+
+/// The three lists of the one-block call's record.
+#[derive(Clone, Copy, Debug)]
+pub struct RecordRoom {
+    pub joints: Room,
+    pub links: Room,
+    pub poses: Room,
 }
 
 /// NaN is within no range.
@@ -260,4 +299,50 @@ pub fn update(sheet: &Sheet, history: List<f64>, joints: List<f64>, renewed: Roo
         ACCEPTED => on_joints(sheet, joints, || renewed.holds(BLOCKS * sheet.all_joints())),
         answer => answer,
     }
+}
+
+/// A call on goals, history and a block of joints, in the order of the
+/// numbers: 7 comes before 8, though the goals are lent first.
+fn on_goals(given: &Given, joints: List<f64>, fits: impl FnOnce() -> bool) -> u32 {
+    let sheet = &given.sheet;
+    match load(sheet) {
+        ACCEPTED
+            if wrong_block(given.history, BLOCKS * sheet.all_joints())
+                || wrong_block(joints, sheet.all_joints()) =>
+        {
+            7
+        }
+        ACCEPTED if wrong_goals(given.goals, sheet.chains()) => 8,
+        ACCEPTED if !fits() => 9,
+        answer => answer,
+    }
+}
+
+pub fn objective(given: &Given, joints: List<f64>, value: Room) -> u32 {
+    on_goals(given, joints, || value.holds(1))
+}
+
+/// The two-block gradient, and `gradient_finite_diff`, which has its lists.
+pub fn gradient(given: &Given, joints: List<f64>, scratch: Room, value: Room, slopes: Room) -> u32 {
+    on_goals(given, joints, || {
+        let count = given.sheet.all_joints();
+        scratch.holds(count) && value.holds(1) && slopes.holds(count)
+    })
+}
+
+pub fn gradient_one_block(
+    given: &Given,
+    joints: List<f64>,
+    value: Room,
+    slopes: Room,
+    record: RecordRoom,
+) -> u32 {
+    on_goals(given, joints, || {
+        let walked = given.sheet.walked();
+        value.holds(1)
+            && slopes.holds(given.sheet.all_joints())
+            && record.joints.holds(walked)
+            && record.links.holds(walked)
+            && record.poses.holds(END_FLOATS * walked)
+    })
 }

@@ -94,6 +94,14 @@ pub fn vars(robot: Robot, goals: &[f64], start: &[f64]) -> RelaxedIKVars {
     vars
 }
 
+/// The state with goals and history as a call is lent them.
+pub fn lent(robot: Robot, goals: &[f64], history: &[f64]) -> RelaxedIKVars {
+    let mut vars = loaded(robot);
+    set_goals(&mut vars, goals);
+    set_history(&mut vars, history);
+    vars
+}
+
 pub fn set_goals(vars: &mut RelaxedIKVars, goals: &[f64]) {
     vars.goal_positions.clear();
     vars.goal_quats.clear();
@@ -142,7 +150,8 @@ pub fn frames(robot: &Robot, joints: &[f64]) -> (Vec<f64>, Vec<f64>) {
     (positions, rotations)
 }
 
-fn end(position: &Vector3<f64>, rotation: &UnitQuaternion<f64>) -> [f64; END_FLOATS] {
+/// A pose as seven floats.
+pub(crate) fn end(position: &Vector3<f64>, rotation: &UnitQuaternion<f64>) -> [f64; END_FLOATS] {
     let (p, q) = (position, rotation);
     [p.x, p.y, p.z, q.w, q.i, q.j, q.k]
 }

@@ -302,3 +302,129 @@ fn the_lowest_number_wins() {
     assert_eq!(answer(&lists, &no_joints), 7);
     assert_eq!(answer(&lists, &good.joints), 9);
 }
+
+/// A goal that is taken for each of so many chains.
+fn taken_goals(chains: usize) -> Vec<f64> {
+    let mut goal = [0.5; 13];
+    goal[3..7].copy_from_slice(&[1.0, 0.0, -0.0, 0.0]);
+    goal.repeat(chains)
+}
+
+fn given<'a>(lists: &'a Lists, goals: &'a [f64], history: &'a [f64]) -> Given<'a> {
+    Given {
+        sheet: lists.sheet(),
+        goals: List::of(goals),
+        history: List::of(history),
+    }
+}
+
+fn record_room(joints: usize, links: usize, poses: usize) -> RecordRoom {
+    RecordRoom {
+        joints: Room::of(joints),
+        links: Room::of(links),
+        poses: Room::of(poses),
+    }
+}
+
+/// Fixed, revolute, revolute, fixed: nine links are walked.
+#[test]
+fn outputs_of_the_objective_and_its_slopes() {
+    let lists = chains(&[&[0, 13, 12, 0]]);
+    let (goals, history) = (taken_goals(1), [0.5; 8]);
+    let given = given(&lists, &goals, &history);
+    let joints = List::of(&lists.joints[..]);
+    assert_eq!(objective(&given, joints, Room::of(1)), 0);
+    assert_eq!(objective(&given, joints, Room::of(0)), 9);
+    assert_eq!(objective(&given, joints, Room::of_bytes(12)), 9);
+    let two_blocks = |s: usize, v: usize, g: usize| {
+        gradient(&given, joints, Room::of(s), Room::of(v), Room::of(g))
+    };
+    assert_eq!(two_blocks(2, 1, 2), 0);
+    assert_eq!(two_blocks(3, 2, 3), 0);
+    assert_eq!(two_blocks(1, 1, 2), 9);
+    assert_eq!(two_blocks(2, 0, 2), 9);
+    assert_eq!(two_blocks(2, 1, 1), 9);
+    let one_block = |value: usize, slopes: usize, record: RecordRoom| {
+        gradient_one_block(&given, joints, Room::of(value), Room::of(slopes), record)
+    };
+    assert_eq!(one_block(1, 2, record_room(9, 9, 63)), 0);
+    assert_eq!(one_block(2, 3, record_room(10, 11, 64)), 0);
+    assert_eq!(one_block(0, 2, record_room(9, 9, 63)), 9);
+    assert_eq!(one_block(1, 1, record_room(9, 9, 63)), 9);
+    assert_eq!(one_block(1, 2, record_room(8, 9, 63)), 9);
+    assert_eq!(one_block(1, 2, record_room(9, 8, 63)), 9);
+    assert_eq!(one_block(1, 2, record_room(9, 9, 62)), 9);
+    // Two bytes a number, and none left over.
+    for (bytes, answer) in [(18, 0), (17, 9), (19, 9), (20, 0)] {
+        let mut record = record_room(9, 9, 63);
+        record.links = Room::of_u16_bytes(bytes);
+        assert_eq!(one_block(1, 2, record), answer, "{bytes} bytes");
+    }
+}
+
+/// The room is what the record needs, on sheets of several chains.
+#[test]
+fn a_record_fits_its_room() {
+    let shapes: [&[&[u16]]; 4] = [
+        &[&[13, 12]],
+        &[&[0, 0, 13, 32, 0, 20], &[11, 0, 36]],
+        &[&[13; 16]],
+        &[&[0, 13, 12, 0], &[13, 0, 12], &[33, 20], &[0, 10, 36]],
+    ];
+    for shape in shapes {
+        let lists = chains(shape);
+        let goals = taken_goals(shape.len());
+        let history = lists.joints.repeat(4);
+        let robot =
+            reference::sheet::robot(&lists.sizes, &lists.codes, &lists.floats, &lists.limits);
+        let record = reference::record::record(&robot, &lists.joints);
+        let needed = record.links.len();
+        let answer = |joints: usize, links: usize, poses: usize| {
+            gradient_one_block(
+                &given(&lists, &goals, &history),
+                List::of(&lists.joints),
+                Room::of(1),
+                Room::of(lists.joints.len()),
+                record_room(joints, links, poses),
+            )
+        };
+        assert_eq!(record.poses.len(), 7 * needed);
+        assert_eq!(answer(needed, needed, 7 * needed), 0);
+        assert_eq!(answer(needed - 1, needed, 7 * needed), 9);
+        assert_eq!(answer(needed, needed - 1, 7 * needed), 9);
+        assert_eq!(answer(needed, needed, 7 * needed - 1), 9);
+    }
+}
+
+/// Joints or history before goals, goals before outputs, the sheet before all.
+#[test]
+fn the_lowest_number_wins_for_slopes() {
+    let mut lists = chains(&[&[13, 12], &[13, 12]]);
+    lists.floats[0] = 11.0;
+    let (goals, history, joints) = (taken_goals(2), [0.5; 16], [0.5; 4]);
+    let mut far = history;
+    far[15] = 8.0f64.next_up();
+    let all = |lists: &Lists, goals: &[f64], history: &[f64], joints: &[f64]| {
+        let (given, joints) = (given(lists, goals, history), List::of(joints));
+        let none = Room::of(0);
+        let answer = objective(&given, joints, none);
+        assert_eq!(answer, gradient(&given, joints, none, none, none));
+        let record = record_room(0, 0, 0);
+        assert_eq!(
+            answer,
+            gradient_one_block(&given, joints, none, none, record)
+        );
+        answer
+    };
+    let (no_goals, no_joints) = ([1.0; 26], [f64::NAN; 4]);
+    assert_eq!(all(&lists, &no_goals, &far, &no_joints), 6);
+    lists.floats[0] = 0.0;
+    assert_eq!(all(&lists, &no_goals, &far, &no_joints), 7);
+    assert_eq!(all(&lists, &no_goals, &far, &joints), 7);
+    assert_eq!(all(&lists, &no_goals, &history, &no_joints), 7);
+    assert_eq!(all(&lists, &no_goals, &history[1..], &joints), 7);
+    assert_eq!(all(&lists, &no_goals, &history, &joints[1..]), 7);
+    assert_eq!(all(&lists, &no_goals, &history, &joints), 8);
+    assert_eq!(all(&lists, &goals[1..], &history, &joints), 8);
+    assert_eq!(all(&lists, &goals, &history, &joints), 9);
+}

@@ -1,15 +1,16 @@
 -- `manipulability` meets its contract: a bad block is refused; else the view is that of the walk's poses. Assumes nothing.
-use mathlib.Core.Path.{_≡_, sym, ap, _∙_}
+use mathlib.Core.Path.{_≡_, refl, sym, ap, _∙_}
 use Prim.Native.Nat.{ℕ}
 use native.Mathlib.Omega.{arith}
 use denote.Ref.{now}
+use lib.Ieee.{nan}
 use lib.ListN.{length}
 use Rattle.sheet.specs.Chain.{joints, joint-last}
 use Rattle.manipulability.specs.View.{view-list}
 use Rattle.manipulability.specs.Jacobian.{manipulability-ext}
 use Rattle.refusals.specs.Refusal.{blockRefusal}
 use Rattle.calls.specs.Arms.{sheet-of, walked}
-use Rattle.calls.specs.Manipulability.{answer-refused, answer-value}
+use Rattle.calls.specs.Answer.{value-taken, value-refused, answer-taken, answer-refused}
 use borrow.Author.Needs.{needs}
 use Rattle.calls.proofs.measure.manipulability.Statement.{statement}
 use Rattle.calls.proofs.measure.manipulability.Tie as tie
@@ -37,8 +38,8 @@ block-refusal-requires c κs = search needs
 
 returns : tie.Need-returns
 returns c =
-    let a = S (c .before) .args in
-    answer-refused (now (a .sizes)) (now (a .codes)) (now (a .geo)) (now (a .block)) (c .before .block-refusal .result) (number (c .before)) (c .if1 .taken)
+    let n = c .before .block-refusal .result in
+    (number (c .before), (sym (value-refused n _ (c .if1 .taken)), sym (answer-refused n nan (c .if1 .taken))))
 
 slice-aggregate-get-frames-immutable : tie.Need-slice-aggregate-get-frames-immutable
 slice-aggregate-get-frames-immutable c = search needs
@@ -74,8 +75,8 @@ returns-2 c =
     let a = s .args in
     let ns = now (a .sizes) in
     let w = walked ns (now (a .codes)) (now (a .geo)) (now (a .block)) _ _ (s .pre) (omega arith) (g .get-frames-immutable .ensures) in
-    answer-value ns (now (a .codes)) (now (a .geo)) (now (a .block)) (c .get-manipulability-immutable .result) (passed (g .before .before))
-    (c .get-manipulability-immutable .ensures ∙ manipulability-ext _ _ ns (now (a .codes)) (λ l h. view-list _ _ l ∙ w l h))
+    let v = c .get-manipulability-immutable .ensures ∙ manipulability-ext _ _ ns (now (a .codes)) (λ l h. view-list _ _ l ∙ w l h) in
+    (sym (passed (g .before .before)), (v ∙ sym (value-taken 0 _ refl), sym (answer-taken _)))
 
 pub manipulability-spec : {M : Type 1} → statement M
 manipulability-spec =

@@ -11,7 +11,7 @@ use lib.Ieee.{Float, nan}
 use Rattle.lists.specs.Listed.{length-listed}
 use Rattle.standins.specs.Num.{no-number}
 use Rattle.geometry.specs.Matrix.{gramOf}
-use Rattle.exports.specs.Bytes.{floatAt}
+use Rattle.lent_bytes.specs.Bytes.{floatAt}
 use Rattle.exports.specs.Matrices.{columnsIn, gramEntry}
 use borrow.Author.Needs.{needs}
 use Rattle.exports.proofs.matrices.relaxed_ik_gram.Statement.{statement}

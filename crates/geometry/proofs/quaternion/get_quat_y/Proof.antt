@@ -1,16 +1,16 @@
--- `get_quat_y`: the sine and the cosine are what `sin_cos` ensures.
+-- `get_quat_y` meets its contract: sine and cosine are made of what the series ensure. Assumes nothing.
 use borrow.Author.Needs.{needs}
-use Rattle.standins.specs.Series.{sineCosineOf}
+use Rattle.standins.specs.Series.{sineOf, cosineOf}
 use Rattle.geometry.specs.Quaternion.{quatYOf}
 use Rattle.geometry.proofs.quaternion.get_quat_y.Statement.{statement}
 use Rattle.geometry.proofs.quaternion.get_quat_y.Tie as tie
 
-sin-cos-requires : tie.Need-sin-cos-requires
-sin-cos-requires c κs = search needs
+both-series-requires : tie.Need-both-series-requires
+both-series-requires c κs = search needs
 
 returns : tie.Need-returns
-unfolding quatYOf sineCosineOf
-returns c = rw (c .sin-cos .ensures)
+unfolding quatYOf sineOf cosineOf
+returns c = rw (c .before .both-series .ensures)
 
 pub get-quat-y-spec : {M : Type 1} → statement M
-get-quat-y-spec = tie.close (tie.spec sin-cos-requires returns)
+get-quat-y-spec = tie.close (tie.spec both-series-requires returns)

@@ -1,16 +1,16 @@
--- `get_quat_z`: the sine and the cosine are what `sin_cos` ensures.
+-- `get_quat_z` meets its contract: sine and cosine are made of what the series ensure. Assumes nothing.
 use borrow.Author.Needs.{needs}
-use Rattle.standins.specs.Series.{sineCosineOf}
+use Rattle.standins.specs.Series.{sineOf, cosineOf}
 use Rattle.geometry.specs.Quaternion.{quatZOf}
 use Rattle.geometry.proofs.quaternion.get_quat_z.Statement.{statement}
 use Rattle.geometry.proofs.quaternion.get_quat_z.Tie as tie
 
-sin-cos-requires : tie.Need-sin-cos-requires
-sin-cos-requires c κs = search needs
+both-series-requires : tie.Need-both-series-requires
+both-series-requires c κs = search needs
 
 returns : tie.Need-returns
-unfolding quatZOf sineCosineOf
-returns c = rw (c .sin-cos .ensures)
+unfolding quatZOf sineOf cosineOf
+returns c = rw (c .before .both-series .ensures)
 
 pub get-quat-z-spec : {M : Type 1} → statement M
-get-quat-z-spec = tie.close (tie.spec sin-cos-requires returns)
+get-quat-z-spec = tie.close (tie.spec both-series-requires returns)

@@ -1,54 +1,71 @@
 -- `put_axis` meets its contract: a fixed link writes nothing. Assumes nothing.
-use mathlib.Core.Path.{sym, ap, _∙_}
+use mathlib.Core.Path.{_≡_, sym, ap, _∙_}
 use native.Mathlib.Omega.{arith}
 use denote.Ref.{now}
-use lib.ListN.{getD}
+use borrow.Author.Tests.{not-true, not-false}
+use lib.ListN.{getD, set}
 use Rattle.lists.specs.Splice.{splice, splice-nil, splice-one}
+use Rattle.sheet.specs.Code.{joint-there, joint-missing}
 use Rattle.sheet.specs.Chain.{joints-fixed, joints-one}
 use Rattle.manipulability.specs.Jacobian.{piece-fixed, piece-one}
 use borrow.Author.Needs.{needs}
 use Rattle.manipulability.proofs.jacobian.put_axis.Statement.{statement}
 use Rattle.manipulability.proofs.jacobian.put_axis.Tie as tie
 
-mul-code : tie.Need-mul-code
-mul-code c = search needs
+-- the link has a joint
+there : (c : tie.Else1) → getD (now (c .before .before .before .before .args .codes)) (c .before .before .before .before .args .link) 0 ≡ 0 → ⊥
+there c = joint-there _ (sym (c .before .has-joint .ensures) ∙ not-false _ (c .if1 .left))
 
-shared-slice-read-code : tie.Need-shared-slice-read-code
-shared-slice-read-code c = search needs
+mul-k : tie.Need-mul-k
+mul-k c = search needs
+
+shared-slice-read-k : tie.Need-shared-slice-read-k
+shared-slice-read-k c = search needs
+
+has-joint-requires : tie.Need-has-joint-requires
+has-joint-requires c κs = search needs
 
 returns : tie.Need-returns
 returns c =
-    let a = c .before .before .args in
-    let cs = now (a .codes) in (
-      omega (arith, joints-fixed (getD cs (a .link) 0) (c .if1 .taken)),
-      sym (ap (splice (now (a .axes)) (a .joint)) (piece-fixed cs (a .link) (c .if1 .taken)) ∙ splice-nil (now (a .axes)) (a .joint)),
+    let a = c .before .before .before .before .args in
+    let cs = now (a .codes) in
+    let fixed = joint-missing (getD cs (a .link) 0) (sym (c .before .has-joint .ensures) ∙ not-true _ (c .if1 .taken)) in (
+      omega (arith, joints-fixed (getD cs (a .link) 0) fixed),
+      sym (ap (splice (now (a .axes)) (a .joint)) (piece-fixed cs (a .link) fixed) ∙ splice-nil (now (a .axes)) (a .joint)),
     )
+
+axis-requires : tie.Need-axis-requires
+axis-requires c κs = search needs
 
 mul-axes : tie.Need-mul-axes
 mul-axes c = search needs
 
 element-write-axes : tie.Need-element-write-axes
-element-write-axes c = omega (arith, joints-one _ (c .if1 .left))
+element-write-axes c = omega (arith, joints-one _ (there (c .before)))
 
 add-result : tie.Need-add-result
 add-result c = search needs
 
 returns-2 : tie.Need-returns-2
 returns-2 c =
-    let s = c .before .before in
+    let s = c .before .before .before .before .before in
     let a = s .args in
-    let cs = now (a .codes) in (
-      omega (arith, joints-one (getD cs (a .link) 0) (c .if1 .left)),
-      sym (ap (splice (now (a .axes)) (a .joint)) (piece-one cs (a .link) (c .if1 .left)) ∙ splice-one (now (a .axes)) (a .joint) _ (omega (arith, s .pre, joints-one (getD cs (a .link) 0) (c .if1 .left)))),
+    let cs = now (a .codes) in
+    let one = joints-one (getD cs (a .link) 0) (there (c .before)) in (
+      omega (arith, one),
+      ap (set (now (a .axes)) (a .joint)) (c .axis .ensures)
+          ∙ sym (ap (splice (now (a .axes)) (a .joint)) (piece-one cs (a .link) (there (c .before))) ∙ splice-one (now (a .axes)) (a .joint) _ (omega (arith, s .pre, one))),
     )
 
 pub put-axis-spec : {M : Type 1} → statement M
 put-axis-spec =
     tie.close
     (tie.spec
-    mul-code
-    shared-slice-read-code
+    mul-k
+    shared-slice-read-k
+    has-joint-requires
     returns
+    axis-requires
     mul-axes
     element-write-axes
     add-result

@@ -8,7 +8,7 @@ use lib.Seq.{length-take-le}
 use Rattle.sheet.specs.Chain.{jointOf, joints, joint-last}
 use Rattle.refusals.specs.Refusal.{blockRefusal}
 use Rattle.relaxed_ik.specs.State.{codesUsed}
-use Rattle.relaxed_ik.specs.Kept.{blockNumber, arms-there, no-arms, used, unused, codes-part}
+use Rattle.relaxed_ik.specs.Kept.{blockKept, arms-there, no-arms, used, unused, codes-part}
 use borrow.Author.Needs.{needs}
 use Rattle.relaxed_ik.proofs.kept.block_on.Statement.{statement}
 use Rattle.relaxed_ik.proofs.kept.block_on.Tie as tie
@@ -24,7 +24,7 @@ in-use-requires : tie.Need-in-use-requires
 in-use-requires c κs = search needs
 
 returns : tie.Need-returns
-unfolding blockNumber
+unfolding blockKept
 returns c = sym (no-arms _ _ _ (unused _ _ _ (c .before .before .in-use .ensures) (c .if1 .taken)))
 
 slice-aggregate-joint-number : tie.Need-slice-aggregate-joint-number
@@ -37,7 +37,7 @@ block-refusal-requires : tie.Need-block-refusal-requires
 block-refusal-requires c κs = search needs
 
 returns-2 : tie.Need-returns-2
-unfolding blockNumber
+unfolding blockKept
 returns-2 c =
     let e = c .before .before .before in
     let s = e .before .before .before .before .before .before in

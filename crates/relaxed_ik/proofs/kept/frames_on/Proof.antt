@@ -10,7 +10,7 @@ use Rattle.spacetime.specs.Walk.{poseOf}
 use Rattle.spacetime.specs.Frames.{positionsOf, rotationsOf}
 use Rattle.calls.specs.Arms.{ifTaken, refused}
 use Rattle.calls.specs.Frames.{framesRefusal}
-use Rattle.relaxed_ik.specs.Kept.{framesNumber, keptPose, arms-there, no-arms, Used, used, unused, parts-are, accepted-parts}
+use Rattle.relaxed_ik.specs.Kept.{framesKept, keptPose, arms-there, no-arms, Used, used, unused, parts-are, accepted-parts}
 use borrow.Author.Needs.{needs}
 use Rattle.relaxed_ik.proofs.kept.frames_on.Statement.{statement}
 use Rattle.relaxed_ik.proofs.kept.frames_on.Tie as tie
@@ -22,7 +22,7 @@ in-use-requires : tie.Need-in-use-requires
 in-use-requires c κs = search needs
 
 returns : tie.Need-returns
-unfolding framesNumber
+unfolding framesKept
 returns c = (sym (no-arms _ _ _ (unused _ _ _ (c .before .before .in-use .ensures) (c .if1 .taken))), (sym (refused 20 _ _ (λ z. omega arith)), sym (refused 20 _ _ (λ z. omega arith))))
 
 add-end : tie.Need-add-end
@@ -63,7 +63,7 @@ same-length-2 : tie.Need-same-length-2
 same-length-2 c = search needs
 
 returns-2 : tie.Need-returns-2
-unfolding framesNumber keptPose
+unfolding framesKept keptPose
 returns-2 c =
     let e = c .before .before .before .before .before .before .before .before .before .before .before in
     let s = e .before .before .before .before .before .before .before .before .before in

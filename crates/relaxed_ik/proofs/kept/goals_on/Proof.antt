@@ -3,7 +3,7 @@ use mathlib.Core.Path.{sym, ap, _∙_}
 use denote.Ref.{now}
 use Prim.Native.Nat.{ℕ}
 use Rattle.refusals.specs.Refusal.{goalsRefusal}
-use Rattle.relaxed_ik.specs.Kept.{goalsNumber, arms-there, no-arms, used, unused}
+use Rattle.relaxed_ik.specs.Kept.{goalsKept, arms-there, no-arms, used, unused}
 use borrow.Author.Needs.{needs}
 use Rattle.relaxed_ik.proofs.kept.goals_on.Statement.{statement}
 use Rattle.relaxed_ik.proofs.kept.goals_on.Tie as tie
@@ -12,14 +12,14 @@ in-use-requires : tie.Need-in-use-requires
 in-use-requires c κs = search needs
 
 returns : tie.Need-returns
-unfolding goalsNumber
+unfolding goalsKept
 returns c = sym (no-arms _ _ _ (unused _ _ _ (c .before .before .in-use .ensures) (c .if1 .taken)))
 
 goals-refusal-requires : tie.Need-goals-refusal-requires
 goals-refusal-requires c κs = search needs
 
 returns-2 : tie.Need-returns-2
-unfolding goalsNumber
+unfolding goalsKept
 returns-2 c =
     let e = c .before in
     let s = c .before .before .before .before .before .before .before in

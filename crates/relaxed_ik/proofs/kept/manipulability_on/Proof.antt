@@ -1,11 +1,15 @@
 -- `manipulability_on` meets its contract: the parts in use are an accepted sheet's. Assumes nothing.
-use mathlib.Core.Path.{_≡_, sym, _∙_}
+use mathlib.Core.Path.{sym, _∙_}
 use Prim.Native.Nat.{_*_}
 use native.Mathlib.Omega.{arith}
 use denote.Ref.{now}
 use lib.Seq.{length-take-le}
-use Rattle.calls.specs.Manipulability.{manipulabilityAnswer}
-use Rattle.relaxed_ik.specs.Kept.{manipulabilityKept, Used, used, unused, parts-are, accepted-parts}
+use Rattle.sheet.specs.Chain.{joints}
+use Rattle.spacetime.specs.Walk.{poseOf}
+use Rattle.manipulability.specs.Jacobian.{manipulabilityOf}
+use Rattle.refusals.specs.Refusal.{blockRefusal}
+use Rattle.calls.specs.Answer.{numberOf, valueIf, value-refused, answer-refused}
+use Rattle.relaxed_ik.specs.Kept.{blockKept, keptPose, manipulabilityKept, arms-there, no-arms, Used, used, unused, parts-are, accepted-parts}
 use borrow.Author.Needs.{needs}
 use Rattle.relaxed_ik.proofs.kept.manipulability_on.Statement.{statement}
 use Rattle.relaxed_ik.proofs.kept.manipulability_on.Tie as tie
@@ -17,8 +21,11 @@ in-use-requires : tie.Need-in-use-requires
 in-use-requires c κs = search needs
 
 returns : tie.Need-returns
-unfolding manipulabilityKept
-returns c = rw (unused _ _ _ (c .before .before .in-use .ensures) (c .if1 .taken))
+unfolding blockKept
+returns c = (
+  sym (no-arms _ _ _ (unused _ _ _ (c .before .before .in-use .ensures) (c .if1 .taken))),
+  (sym (value-refused 20 _ (λ z. omega arith)), sym (answer-refused 20 _ (λ z. omega arith))),
+)
 
 add-end : tie.Need-add-end
 add-end c = omega (arith, U (c .before))
@@ -52,12 +59,20 @@ manipulability-requires c κs =
     accepted-parts (now (s .args .sizes)) (now (s .args .codes)) (now (s .args .floats)) (e .before .before .in-use .result) (U e) (s .pre .1) (s .pre .2)
 
 returns-2 : tie.Need-returns-2
-unfolding manipulabilityKept
+unfolding blockKept manipulabilityKept keptPose
 returns-2 c =
     let e = c .before .before .before .before .before in
     let a = e .before .before .before .before .before .before .before .args in
-    rw (U e .have)
-    (c .manipulability .ensures ∙ parts-are (now (a .sizes)) (now (a .codes)) (now (a .floats)) (e .before .before .in-use .result) (U e) (λ ns ks gs. manipulabilityAnswer ns ks gs (now (a .joints))))
+    let m = c .manipulability in
+    let n = e .before .before .in-use .result in (
+      m .ensures .0 ∙ parts-are (now (a .sizes)) (now (a .codes)) (now (a .floats)) n (U e) (λ ns ks gs. blockRefusal (joints ks) (now (a .joints)))
+          ∙ sym (arms-there _ _ _ (U e .have)),
+      (
+        m .ensures .1 .0 ∙ parts-are (now (a .sizes)) (now (a .codes)) (now (a .floats)) n (U e)
+            (λ ns ks gs. valueIf (numberOf (m .result)) (manipulabilityOf (poseOf ns ks gs (now (a .joints))) ns ks)),
+        m .ensures .1 .1,
+      ),
+    )
 
 pub manipulability-on-spec : {M : Type 1} → statement M
 manipulability-on-spec =

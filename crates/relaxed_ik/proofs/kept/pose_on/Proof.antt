@@ -10,7 +10,7 @@ use Rattle.spacetime.specs.Walk.{poseOf}
 use Rattle.spacetime.specs.Frames.{endsOf}
 use Rattle.calls.specs.Arms.{ifTaken, refused}
 use Rattle.calls.specs.Frames.{poseRefusal}
-use Rattle.relaxed_ik.specs.Kept.{poseNumber, keptPose, arms-there, no-arms, Used, used, unused, parts-are, accepted-parts}
+use Rattle.relaxed_ik.specs.Kept.{poseKept, keptPose, arms-there, no-arms, Used, used, unused, parts-are, accepted-parts}
 use borrow.Author.Needs.{needs}
 use Rattle.relaxed_ik.proofs.kept.pose_on.Statement.{statement}
 use Rattle.relaxed_ik.proofs.kept.pose_on.Tie as tie
@@ -22,7 +22,7 @@ in-use-requires : tie.Need-in-use-requires
 in-use-requires c κs = search needs
 
 returns : tie.Need-returns
-unfolding poseNumber
+unfolding poseKept
 returns c = (sym (no-arms _ _ _ (unused _ _ _ (c .before .before .in-use .ensures) (c .if1 .taken))), sym (refused 20 _ _ (λ z. omega arith)))
 
 add-end : tie.Need-add-end
@@ -60,7 +60,7 @@ same-length : tie.Need-same-length
 same-length c = search needs
 
 returns-2 : tie.Need-returns-2
-unfolding poseNumber keptPose
+unfolding poseKept keptPose
 returns-2 c =
     let e = c .before .before .before .before .before .before .before .before in
     let s = e .before .before .before .before .before .before .before .before in

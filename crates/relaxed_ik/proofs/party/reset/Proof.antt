@@ -3,7 +3,7 @@ use mathlib.Core.Path.{_≡_, sym, _∙_}
 use borrow.Author.Tests.{ne-eqb}
 use Rattle.calls.specs.Arms.{taken}
 use Rattle.relaxed_ik.specs.Load.{outcomeOf}
-use Rattle.relaxed_ik.specs.Kept.{blockNumber, pose-number}
+use Rattle.relaxed_ik.specs.Kept.{blockKept, pose-kept}
 use Rattle.relaxed_ik.specs.Party.{withStart, resetStateOf, block-fits}
 use borrow.Author.Needs.{needs}
 use Rattle.relaxed_ik.proofs.party.reset.Statement.{statement}
@@ -28,13 +28,13 @@ returns : tie.Need-returns
 unfolding resetStateOf outcomeOf
 returns c =
     let n = c .before .before .pose-on in
-    let e : blockNumber _ _ _ ≡ n .result = sym (n .ensures .0 ∙ pose-number _ _ _) in
+    let e : blockKept _ _ _ ≡ n .result = sym (n .ensures .0 ∙ pose-kept _ _ _) in
     rw (e, ne-eqb (n .result) 0 (c .if1 .taken))
 
 padded16-requires : tie.Need-padded16-requires
 padded16-requires c κs =
     let n = c .before .before .before .before .pose-on in
-    block-fits _ _ _ (sym (n .ensures .0 ∙ pose-number _ _ _) ∙ c .before .before .if1 .left)
+    block-fits _ _ _ (sym (n .ensures .0 ∙ pose-kept _ _ _) ∙ c .before .before .if1 .left)
 
 reset-requires : tie.Need-reset-requires
 reset-requires c κs = search needs
@@ -44,7 +44,7 @@ unfolding resetStateOf outcomeOf withStart
 returns-2 c =
     let n = c .before .before .before .before .before .before .pose-on in
     let left = c .before .before .before .before .if1 .left in
-    let e : blockNumber _ _ _ ≡ 0 = sym (n .ensures .0 ∙ pose-number _ _ _) ∙ left in
+    let e : blockKept _ _ _ ≡ 0 = sym (n .ensures .0 ∙ pose-kept _ _ _) ∙ left in
     let p = n .ensures .1 ∙ taken (n .result) _ _ left in
     rw e (cc)
 

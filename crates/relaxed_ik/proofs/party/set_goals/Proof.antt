@@ -2,7 +2,7 @@
 use mathlib.Core.Path.{_≡_, sym, _∙_}
 use borrow.Author.Tests.{ne-eqb}
 use Rattle.relaxed_ik.specs.Load.{outcomeOf}
-use Rattle.relaxed_ik.specs.Kept.{goalsNumber}
+use Rattle.relaxed_ik.specs.Kept.{goalsKept}
 use Rattle.relaxed_ik.specs.Party.{withGoals, setGoalsOf, goals-fit}
 use borrow.Author.Needs.{needs}
 use Rattle.relaxed_ik.proofs.party.set_goals.Statement.{statement}
@@ -33,7 +33,7 @@ returns-2 : tie.Need-returns-2
 unfolding setGoalsOf outcomeOf withGoals
 returns-2 c =
     let n = c .before .before .before .before .before .before .before .goals-on in
-    let e : goalsNumber _ _ _ ≡ 0 = sym (n .ensures) ∙ c .before .before .before .before .before .before .if1 .left in
+    let e : goalsKept _ _ _ ≡ 0 = sym (n .ensures) ∙ c .before .before .before .before .before .before .if1 .left in
     rw e (cc)
 
 pub set-goals-spec : {M : Type 1} → statement M

@@ -2,7 +2,7 @@
 use mathlib.Core.Path.{_≡_, sym, _∙_}
 use borrow.Author.Tests.{ne-eqb}
 use Rattle.relaxed_ik.specs.Load.{outcomeOf}
-use Rattle.relaxed_ik.specs.Kept.{updateNumber}
+use Rattle.relaxed_ik.specs.Kept.{updateKept}
 use Rattle.relaxed_ik.specs.Party.{withBlock, updateStateOf, update-fits}
 use borrow.Author.Needs.{needs}
 use Rattle.relaxed_ik.proofs.party.update.Statement.{statement}
@@ -33,7 +33,7 @@ returns-2 : tie.Need-returns-2
 unfolding updateStateOf outcomeOf withBlock
 returns-2 c =
     let n = c .before .before .before .before .before .update-on in
-    let e : updateNumber _ _ _ _ ≡ 0 = sym (n .ensures) ∙ c .before .before .before .before .if1 .left in
+    let e : updateKept _ _ _ _ ≡ 0 = sym (n .ensures) ∙ c .before .before .before .before .if1 .left in
     rw e (cc)
 
 pub update-spec : {M : Type 1} → statement M

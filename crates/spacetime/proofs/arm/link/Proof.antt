@@ -1,8 +1,18 @@
 -- `link` meets its contract: each kind by what its calls ensure. Assumes nothing.
-use Rattle.spacetime.specs.Link.{linkOf}
+use mathlib.Core.Path.{_≡_, _∙_}
+use Prim.Native.Nat.{ℕ}
+use lib.Ieee.{Float}
+use Rattle.sheet.specs.declared.code.Kind.{Kind}
+use Rattle.sheet.specs.declared.code.Kind.the-variants.{Turning}
+use Rattle.spacetime.specs.Link.{jointTurn, turnOf, turnedOf, linkOf}
 use borrow.Author.Needs.{needs}
 use Rattle.spacetime.proofs.arm.link.Statement.{statement}
 use Rattle.spacetime.proofs.arm.link.Tie as tie
+
+-- a turning link's turn is about its axis
+turning : {kind : Kind} {axis : ℕ} (v : Float) → kind ≡ Turning axis → jointTurn kind v ≡ turnOf axis v
+unfolding jointTurn
+turning v e = rw e
 
 offset-requires : tie.Need-offset-requires
 offset-requires c κs = search needs
@@ -35,8 +45,12 @@ carried-requires-3 : tie.Need-carried-requires-3
 carried-requires-3 c κs = search needs
 
 returns : tie.Need-returns
-unfolding linkOf
-returns c = rw (c .before .before .before .kind .given .1) (cc)
+unfolding linkOf turnedOf
+returns c =
+    let k = c .before .before .before .kind .given .1 in
+    let a = c .before .before .before .before .before .before in
+    let t : a .args .t ≡ turnOf (c .before .before .before .kind .given .0 .0) (a .args .v) = a .pre ∙ turning (a .args .v) k in
+    rw k (cc)
 
 returns-2 : tie.Need-returns-2
 unfolding linkOf

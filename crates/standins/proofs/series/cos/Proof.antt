@@ -1,17 +1,15 @@
--- `cos` meets its contract: one half of both. Assumes nothing.
-use mathlib.Core.Path.{ap}
+-- `cos` meets its contract: its series is that of the square. Assumes nothing.
 use borrow.Author.Needs.{needs}
-use Rattle.standins.specs.Series.{sineCosineOf}
-use Rattle.standins.specs.declared.series.SinCos.{SinCos}
+use Rattle.standins.specs.Series.{cosineOf}
 use Rattle.standins.proofs.series.cos.Statement.{statement}
 use Rattle.standins.proofs.series.cos.Tie as tie
 
-sin-cos-requires : tie.Need-sin-cos-requires
-sin-cos-requires c κs = search needs
+both-series-requires : tie.Need-both-series-requires
+both-series-requires c κs = search needs
 
 returns : tie.Need-returns
-unfolding sineCosineOf
-returns c = ap (λ (r : SinCos). r .cos) (c .sin-cos .ensures)
+unfolding cosineOf
+returns c = rw (c .both-series .ensures)
 
 pub cos-spec : {M : Type 1} → statement M
-cos-spec = tie.close (tie.spec sin-cos-requires returns)
+cos-spec = tie.close (tie.spec both-series-requires returns)

@@ -1,0 +1,79 @@
+-- The byte calls on an arm sheet: their numbers and what they write. They keep no state, so the sheet is lent each time.
+use mathlib.Core.List.{List, [], _∷_, _++_}
+use Prim.Native.Nat.{ℕ, _*_}
+use lib.Ieee.{Float}
+use lib.ListN.{length, take}
+use Rattle.lists.specs.Splice.{splice}
+use Rattle.geometry.specs.declared.pose.Pose.{Pose}
+use Rattle.sheet.specs.Chain.{joints}
+use Rattle.spacetime.specs.Walk.{poseOf}
+use Rattle.spacetime.specs.Frames.{positionsOf, rotationsOf, endsOf}
+use Rattle.manipulability.specs.Jacobian.{manipulabilityOf}
+use Rattle.refusals.specs.Lowest.{firstOf}
+use Rattle.refusals.specs.Refusal.{chainsOf, linksOf, loadRefusal, blockRefusal, goalsRefusal, roomRefusal}
+use Rattle.calls.specs.Arms.{ifTaken}
+use Rattle.calls.specs.Frames.{framesRefusal, poseRefusal}
+use Rattle.lent_bytes.specs.Lent.{bytesOf}
+use Rattle.lent_bytes.specs.SheetLists.{LentList, lent, SheetLists}
+
+-- ---- the numbers: those of loading, 1 to 6, then the call's own; 0 is accepted. Rooms are in floats.
+abbrev pub loadNumber : SheetLists → ℕ
+loadNumber s = loadRefusal (s .sizes) (s .codes) (s .floats) (s .limits)
+
+-- setting goals: then 8
+unfoldable pub setGoalsNumber : SheetLists → List Float → ℕ
+setGoalsNumber s goals = firstOf (loadNumber s) (goalsRefusal (chainsOf (s .sizes)) goals)
+
+-- frames of block x: then 7, then 9
+unfoldable pub framesNumber : SheetLists → List Float → ℕ → ℕ → ℕ
+framesNumber s x positions rotations = firstOf (loadNumber s) (framesRefusal (linksOf (s .sizes)) (s .codes) x positions rotations)
+
+-- end poses of block x: then 7, then 9
+unfoldable pub poseNumber : SheetLists → List Float → ℕ → ℕ
+poseNumber s x ends = firstOf (loadNumber s) (poseRefusal (linksOf (s .sizes)) (s .codes) x ends)
+
+-- an update with block x of a history, which is four joint blocks: then 7, for either, then 9
+unfoldable pub updateNumber : SheetLists → List Float → List Float → ℕ → ℕ
+updateNumber s history x room =
+    firstOf (loadNumber s)
+    (firstOf (firstOf (blockRefusal (joints (s .codes)) x) (blockRefusal (4 * joints (s .codes)) history)) (roomRefusal (4 * joints (s .codes)) room))
+
+-- a reset to block x: then 7, then 9 for either output
+unfoldable pub resetNumber : SheetLists → List Float → ℕ → ℕ → ℕ
+resetNumber s x history ends =
+    firstOf (loadNumber s) (firstOf (poseRefusal (linksOf (s .sizes)) (s .codes) x ends) (roomRefusal (4 * joints (s .codes)) history))
+
+-- manipulability at block x: then 7, then 9 for an output without room for one float
+unfoldable pub manipulabilityNumber : SheetLists → List Float → ℕ → ℕ
+manipulabilityNumber s x room = firstOf (loadNumber s) (firstOf (blockRefusal (joints (s .codes)) x) (roomRefusal 1 room))
+
+-- ---- what they write, in floats
+-- the pose after each link in the walk of block x
+abbrev pub posesOn : SheetLists → List Float → ℕ → Pose
+posesOn s x = poseOf (linksOf (s .sizes)) (s .codes) (s .floats) x
+
+-- the frames of block x, and the end poses
+unfoldable pub framePositions : SheetLists → List Float → List Float
+framePositions s x = positionsOf (linksOf (s .sizes)) (posesOn s x)
+
+unfoldable pub frameRotations : SheetLists → List Float → List Float
+frameRotations s x = rotationsOf (linksOf (s .sizes)) (posesOn s x)
+
+unfoldable pub endPoses : SheetLists → List Float → List Float
+endPoses s x = endsOf (linksOf (s .sizes)) (posesOn s x)
+
+-- update: the new block, then the first three of the old; the fourth is dropped
+unfoldable pub updatedBlocks : List Float → List Float → List Float
+updatedBlocks history x = x ++ take (3 * length x) history
+
+-- reset: all four blocks are the start
+unfoldable pub resetBlocks : List Float → List Float
+resetBlocks x = ((x ++ x) ++ x) ++ x
+
+-- manipulability: one float, of the poses of the walk
+unfoldable pub manipulabilityValue : SheetLists → List Float → List Float
+manipulabilityValue s x = manipulabilityOf (posesOn s x) (linksOf (s .sizes)) (s .codes) ∷ []
+
+-- an output after a call of number r: the bytes at its front, its tail kept; as it was where the call is refused
+abbrev pub outputOf : {X : Type 0} → ℕ → LentList ℕ X → List Float → List ℕ
+outputOf r out answer = ifTaken r (lent out) (splice (lent out) 0 (bytesOf answer))

@@ -1,0 +1,5 @@
+pub mod ArmCalls
+pub mod ArmLaws
+pub mod Blocks
+pub mod Numbers
+pub mod Ragged

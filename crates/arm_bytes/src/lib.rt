@@ -1,0 +1,3 @@
+// The byte calls on an arm sheet.
+mod arm_lists;
+pub mod arms;

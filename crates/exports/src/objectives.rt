@@ -1,0 +1,89 @@
+// The calls on the objective, as little-endian bytes. The answer is the refusal's number, 0 where the call is accepted.
+use objective_bytes::objectives;
+ghost use mathlib.Core.Path.{_≡_};
+ghost use Rattle.lent_bytes.specs.SheetLists.{sheetIn, blockIn, goalsIn, historyIn, roomOf};
+ghost use Rattle.arm_bytes.specs.ArmCalls.{outputOf};
+ghost use Rattle.objective_bytes.specs.ObjectiveCalls.{objectiveNumber, slopesNumber, objectiveValue, gradientSlopes, finiteDiffSlopes};
+
+#[no_mangle]
+pub extern "C" fn relaxed_ik_objective(
+    sizes: &[u8],
+    codes: &[u8],
+    floats: &[u8],
+    limits: &[u8],
+    goals: &[u8],
+    history: &[u8],
+    joints: &[u8],
+    value: &mut [u8],
+) -> u32
+    ensures number { λ r. ⌜ r ≡ objectiveNumber (sheetIn sizes codes floats limits) (goalsIn goals) (historyIn history) (blockIn joints) (roomOf value) ⌝ }
+    ensures value { λ r. ⌜ now (value .exit) ≡ outputOf r value (objectiveValue (sheetIn sizes codes floats limits) (goalsIn goals) (historyIn history) (blockIn joints)) ⌝ }
+{
+    objectives::objective(sizes, codes, floats, limits, goals, history, joints, value)
+}
+
+// The joints are read; scratch gets them. The slopes are those by a step of 1e-7.
+#[no_mangle]
+pub extern "C" fn relaxed_ik_gradient(
+    sizes: &[u8],
+    codes: &[u8],
+    floats: &[u8],
+    limits: &[u8],
+    goals: &[u8],
+    history: &[u8],
+    joints: &[u8],
+    scratch: &mut [u8],
+    value: &mut [u8],
+    slopes: &mut [u8],
+) -> u32
+    ensures number { λ r. ⌜ r ≡ slopesNumber (sheetIn sizes codes floats limits) (goalsIn goals) (historyIn history) (blockIn joints) (roomOf scratch) (roomOf value) (roomOf slopes) ⌝ }
+    ensures scratch { λ r. ⌜ now (scratch .exit) ≡ outputOf r scratch (blockIn joints) ⌝ }
+    ensures value { λ r. ⌜ now (value .exit) ≡ outputOf r value (objectiveValue (sheetIn sizes codes floats limits) (goalsIn goals) (historyIn history) (blockIn joints)) ⌝ }
+    ensures slopes { λ r. ⌜ now (slopes .exit) ≡ outputOf r slopes (gradientSlopes (sheetIn sizes codes floats limits) (goalsIn goals) (historyIn history) (blockIn joints)) ⌝ }
+{
+    objectives::gradient(
+        sizes,
+        codes,
+        floats,
+        limits,
+        goals,
+        history,
+        joints,
+        scratch,
+        value,
+        slopes,
+    )
+}
+
+// The joints are read; scratch gets them. The slopes are those by a step of 1e-6.
+#[no_mangle]
+pub extern "C" fn relaxed_ik_gradient_finite_diff(
+    sizes: &[u8],
+    codes: &[u8],
+    floats: &[u8],
+    limits: &[u8],
+    goals: &[u8],
+    history: &[u8],
+    joints: &[u8],
+    scratch: &mut [u8],
+    value: &mut [u8],
+    slopes: &mut [u8],
+) -> u32
+    ensures number { λ r. ⌜ r ≡ slopesNumber (sheetIn sizes codes floats limits) (goalsIn goals) (historyIn history) (blockIn joints) (roomOf scratch) (roomOf value) (roomOf slopes) ⌝ }
+    ensures scratch { λ r. ⌜ now (scratch .exit) ≡ outputOf r scratch (blockIn joints) ⌝ }
+    ensures value { λ r. ⌜ now (value .exit) ≡ outputOf r value (objectiveValue (sheetIn sizes codes floats limits) (goalsIn goals) (historyIn history) (blockIn joints)) ⌝ }
+    ensures slopes { λ r. ⌜ now (slopes .exit) ≡ outputOf r slopes (finiteDiffSlopes (sheetIn sizes codes floats limits) (goalsIn goals) (historyIn history) (blockIn joints)) ⌝ }
+{
+    objectives::gradient_finite_diff(
+        sizes,
+        codes,
+        floats,
+        limits,
+        goals,
+        history,
+        joints,
+        scratch,
+        value,
+        slopes,
+    )
+}

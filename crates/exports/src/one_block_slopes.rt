@@ -1,0 +1,47 @@
+// The gradient on one block, as little-endian bytes. The answer is the refusal's number, 0 where the call is accepted.
+use one_block_bytes::slopes as bytes;
+ghost use mathlib.Core.Path.{_≡_};
+ghost use Rattle.lent_bytes.specs.SheetLists.{sheetIn, blockIn, goalsIn, historyIn, roomOf};
+ghost use Rattle.arm_bytes.specs.ArmCalls.{outputOf};
+ghost use Rattle.objective_bytes.specs.ObjectiveCalls.{objectiveValue, gradientSlopes};
+ghost use Rattle.one_block_bytes.specs.OneBlockCalls.{oneBlockNumber, jointsIn, linksIn, posesIn, numberRoomOf, numbersOutputOf};
+
+// The joints are only read. The slopes are those by a step of 1e-7; the record has the joint raised, the link, and the pose after it.
+#[no_mangle]
+pub extern "C" fn relaxed_ik_gradient_one_block(
+    sizes: &[u8],
+    codes: &[u8],
+    floats: &[u8],
+    limits: &[u8],
+    goals: &[u8],
+    history: &[u8],
+    joints: &[u8],
+    value: &mut [u8],
+    slopes: &mut [u8],
+    record_joints: &mut [u8],
+    record_links: &mut [u8],
+    record_poses: &mut [u8],
+) -> u32
+    ensures number { λ r. ⌜ r ≡ oneBlockNumber (sheetIn sizes codes floats limits) (goalsIn goals) (historyIn history) (blockIn joints)
+        (roomOf value) (roomOf slopes) (numberRoomOf «record_joints») (numberRoomOf «record_links») (roomOf «record_poses») ⌝ }
+    ensures value { λ r. ⌜ now (value .exit) ≡ outputOf r value (objectiveValue (sheetIn sizes codes floats limits) (goalsIn goals) (historyIn history) (blockIn joints)) ⌝ }
+    ensures slopes { λ r. ⌜ now (slopes .exit) ≡ outputOf r slopes (gradientSlopes (sheetIn sizes codes floats limits) (goalsIn goals) (historyIn history) (blockIn joints)) ⌝ }
+    ensures record { λ r. ⌜ (now («record_joints» .exit) ≡ numbersOutputOf r «record_joints» (jointsIn (sheetIn sizes codes floats limits)))
+        × (now («record_links» .exit) ≡ numbersOutputOf r «record_links» (linksIn (sheetIn sizes codes floats limits)))
+        × (now («record_poses» .exit) ≡ outputOf r «record_poses» (posesIn (sheetIn sizes codes floats limits) (blockIn joints))) ⌝ }
+{
+    bytes::gradient_one_block(
+        sizes,
+        codes,
+        floats,
+        limits,
+        goals,
+        history,
+        joints,
+        value,
+        slopes,
+        record_joints,
+        record_links,
+        record_poses,
+    )
+}

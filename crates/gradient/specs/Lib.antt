@@ -1,0 +1,4 @@
+pub mod Slopes
+pub mod Gradient
+pub mod Ready
+pub mod Made

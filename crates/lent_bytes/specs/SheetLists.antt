@@ -1,0 +1,59 @@
+-- What a byte call is lent: the sheet's four lists as one value, and the lists beside it.
+use mathlib.Core.Path.{_≡_, ap, _∙_}
+use mathlib.Core.List.{List}
+use Prim.Native.Nat.{ℕ}
+use denote.Ref.{RefT, now}
+use denote.Triple.Both.{Both}
+use lib.Ieee.{Float}
+use lib.ListN.{length}
+use Rattle.lent_bytes.specs.Lent.{numbersIn, floatsIn, roomIn}
+
+-- a list that a call is lent, as a contract has its name: the list at entry, and X, what is seen of it at exit
+abbrev pub LentList : Type 0 → Type 0 → Type 0
+LentList A X = Both (RefT (List A)) X
+
+-- what it held as the call began
+abbrev pub lent : {A X : Type 0} → LentList A X → List A
+lent xs = now (xs .entry)
+
+-- the arm sheet and its limits
+pub record SheetLists : Type 0 where
+  pub sizes : List ℕ
+  pub codes : List ℕ
+  pub floats : List Float
+  pub limits : List Float
+
+abbrev pub sheetWith : List ℕ → List ℕ → List Float → List Float → SheetLists
+sheetWith sizes codes floats limits = record { sizes = sizes; codes = codes; floats = floats; limits = limits }
+
+-- as decoded lists, and as bytes, each with the longest that is taken
+abbrev pub sheetOf : {X Y Z W : Type 0} → LentList ℕ X → LentList ℕ Y → LentList Float Z → LentList Float W → SheetLists
+sheetOf sizes codes floats limits = sheetWith (lent sizes) (lent codes) (lent floats) (lent limits)
+
+abbrev pub sheetIn : {X Y Z W : Type 0} → LentList ℕ X → LentList ℕ Y → LentList ℕ Z → LentList ℕ W → SheetLists
+sheetIn sizes codes floats limits = sheetWith (numbersIn 5 (lent sizes)) (numbersIn 64 (lent codes)) (floatsIn 448 (lent floats)) (floatsIn 32 (lent limits))
+
+-- a joint block, goals and a history as bytes
+abbrev pub blockIn : {X : Type 0} → LentList ℕ X → List Float
+blockIn joints = floatsIn 16 (lent joints)
+
+abbrev pub goalsIn : {X : Type 0} → LentList ℕ X → List Float
+goalsIn goals = floatsIn 52 (lent goals)
+
+abbrev pub historyIn : {X : Type 0} → LentList ℕ X → List Float
+historyIn history = floatsIn 64 (lent history)
+
+-- the room in floats of an output
+abbrev pub roomOf : {X : Type 0} → LentList ℕ X → ℕ
+roomOf out = roomIn (length (lent out))
+
+-- ---- laws: lists that are equal
+pub same-two : {A B C : Type 0} (f : A → B → C) {a a′ : A} {b b′ : B} → a ≡ a′ → b ≡ b′ → f a b ≡ f a′ b′
+same-two f {a′ = a′} {b = b} p q = ap (λ x. f x b) p ∙ ap (f a′) q
+
+pub same-three : {A B C D : Type 0} (f : A → B → C → D) {a a′ : A} {b b′ : B} {c c′ : C} → a ≡ a′ → b ≡ b′ → c ≡ c′ → f a b c ≡ f a′ b′ c′
+same-three f {a′ = a′} {b′ = b′} {c = c} p q r = same-two (λ a b. f a b c) p q ∙ ap (f a′ b′) r
+
+pub same-sheet : {s s′ c c′ : List ℕ} {f f′ l l′ : List Float} → s ≡ s′ → c ≡ c′ → f ≡ f′ → l ≡ l′ → sheetWith s c f l ≡ sheetWith s′ c′ f′ l′
+same-sheet {s′ = s′} {c = c} {c′ = c′} {f = f} {f′ = f′} {l = l} p q r t =
+    ap (λ x. sheetWith x c f l) p ∙ ap (λ x. sheetWith s′ x f l) q ∙ ap (λ x. sheetWith s′ c′ x l) r ∙ ap (sheetWith s′ c′ f′) t

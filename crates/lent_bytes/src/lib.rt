@@ -1,0 +1,3 @@
+// Lists that are lent as little-endian bytes.
+pub mod bytes;
+pub mod lent;

@@ -1,0 +1,4 @@
+pub mod ObjectiveCalls
+pub mod ObjectiveLaws
+pub mod Numbers
+pub mod Ragged

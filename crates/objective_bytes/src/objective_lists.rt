@@ -1,0 +1,329 @@
+// What the byte calls on the objective do once their lists are decoded; outputs are bytes.
+use gradient::finite_diff;
+use gradient::gradient as slopes_of;
+use gradient::value as value_of;
+use lent_bytes::lent as bytes_lent;
+use objective_master::weights;
+use refusals::lent;
+use refusals::load;
+use refusals::shape;
+use sheet::chain;
+ghost use mathlib.Core.Path.{_≡_};
+ghost use Prim.Native.Nat.{_+_, _*_, _≤_};
+ghost use lib.ListN.{length, take};
+ghost use mathlib.Core.List.{[], _∷_};
+ghost use Rattle.lists.specs.Splice.{splice};
+ghost use Rattle.lent_bytes.specs.Lent.{roomIn, bytesOf};
+ghost use Rattle.lent_bytes.specs.SheetLists.{lent, sheetWith, sheetOf, roomOf};
+ghost use Rattle.arm_bytes.specs.ArmCalls.{outputOf};
+ghost use Rattle.objective_bytes.specs.ObjectiveCalls.{aimedNumber, objectiveNumber, slopesNumber, blockFrom};
+ghost use Rattle.objective_bytes.specs.ObjectiveCalls.{valueIn, objectiveValue, gradientSlopes, finiteDiffSlopes};
+
+pub fn aimed_number(
+    sizes: &[u16],
+    codes: &[u16],
+    floats: &[f64],
+    limits: &[f64],
+    goals: &[f64],
+    history: &[f64],
+    joints: &[f64],
+) -> u16
+    ensures { λ r. ⌜ r ≡ aimedNumber (sheetOf sizes codes floats limits) (lent goals) (lent history) (lent joints) ⌝ }
+{
+    let load = load::load_refusal(sizes, codes, floats, limits);
+    if load != 0 {
+        return load;
+    }
+    let n = chain::joint_number(codes, codes.len());
+    let first = lent::block_refusal(n, joints);
+    let second = lent::block_refusal(4 * n, history);
+    let seven = lent::first_of(first, second);
+    let eight = lent::goals_refusal(sizes[0] as usize, goals);
+    lent::first_of(seven, eight)
+}
+
+// Sizes of outputs are in bytes.
+fn slopes_number(
+    sizes: &[u16],
+    codes: &[u16],
+    floats: &[f64],
+    limits: &[f64],
+    goals: &[f64],
+    history: &[f64],
+    joints: &[f64],
+    scratch: usize,
+    value: usize,
+    slopes: usize,
+) -> u16
+    ensures { λ r. ⌜ r ≡ slopesNumber (sheetOf sizes codes floats limits) (lent goals) (lent history) (lent joints) (roomIn scratch) (roomIn value) (roomIn slopes) ⌝ }
+{
+    let aimed = aimed_number(sizes, codes, floats, limits, goals, history, joints);
+    let n = chain::joint_number(codes, codes.len());
+    let first = lent::room_refusal(n, bytes_lent::room(scratch));
+    let second = lent::room_refusal(1, bytes_lent::room(value));
+    let third = lent::room_refusal(n, bytes_lent::room(slopes));
+    lent::first_of(aimed, lent::first_of(first, lent::first_of(second, third)))
+}
+
+// A block of n joints of a history.
+pub fn block_from(history: &[f64], at: usize, n: usize) -> &[f64]
+    requires { ⌜ at + n ≤ length (now history) ⌝ }
+    ensures { λ r. ⌜ now r ≡ blockFrom at n (now (history .entry)) ⌝ }
+{
+    let end = at + n;
+    &history[at..end]
+}
+
+fn value_on(
+    sizes: &[u16],
+    codes: &[u16],
+    floats: &[f64],
+    limits: &[f64],
+    goals: &[f64],
+    history: &[f64],
+    joints: &[f64],
+) -> f64
+    requires { ⌜ aimedNumber (sheetWith (now sizes) (now codes) (now floats) (now limits)) (now goals) (now history) (now joints) ≡ 0 ⌝ }
+    ensures { λ r. ⌜ r ≡ valueIn (sheetOf sizes codes floats limits) (lent goals) (lent history) (lent joints) ⌝ }
+{
+    let w = weights::weight_priors();
+    let counts = shape::links(sizes);
+    let n = joints.len();
+    let xopt = block_from(history, 0, n);
+    let prev_state = block_from(history, n, n);
+    let prev_state2 = block_from(history, 2 * n, n);
+    value_of::objective(
+        &w,
+        counts,
+        codes,
+        floats,
+        limits,
+        goals,
+        xopt,
+        prev_state,
+        prev_state2,
+        joints,
+    )
+}
+
+// Value and slopes; `scratch` holds the joints in the end.
+fn gradient_on(
+    sizes: &[u16],
+    codes: &[u16],
+    floats: &[f64],
+    limits: &[f64],
+    goals: &[f64],
+    history: &[f64],
+    joints: &[f64],
+    scratch: &mut [f64],
+    slopes: &mut [f64],
+) -> f64
+    requires { ⌜ (aimedNumber (sheetWith (now sizes) (now codes) (now floats) (now limits)) (now goals) (now history) (now joints) ≡ 0) × (length (now scratch) ≡ 16) × (length (now slopes) ≡ 16) ⌝ }
+    ensures { λ r. ⌜ r ≡ valueIn (sheetOf sizes codes floats limits) (lent goals) (lent history) (lent joints) ⌝ }
+    ensures { λ _. ⌜ now (slopes .exit) ≡ splice (lent slopes) 0 (gradientSlopes (sheetOf sizes codes floats limits) (lent goals) (lent history) (lent joints)) ⌝ }
+    ensures { λ _. ⌜ now (scratch .exit) ≡ splice (lent scratch) 0 (lent joints) ⌝ }
+{
+    let w = weights::weight_priors();
+    let counts = shape::links(sizes);
+    let n = joints.len();
+    let xopt = block_from(history, 0, n);
+    let prev_state = block_from(history, n, n);
+    let prev_state2 = block_from(history, 2 * n, n);
+    slopes_of::gradient(
+        &w,
+        counts,
+        codes,
+        floats,
+        limits,
+        goals,
+        xopt,
+        prev_state,
+        prev_state2,
+        joints,
+        scratch,
+        slopes,
+    )
+}
+
+// The same by the step of 1e-6.
+fn finite_diff_on(
+    sizes: &[u16],
+    codes: &[u16],
+    floats: &[f64],
+    limits: &[f64],
+    goals: &[f64],
+    history: &[f64],
+    joints: &[f64],
+    scratch: &mut [f64],
+    slopes: &mut [f64],
+) -> f64
+    requires { ⌜ (aimedNumber (sheetWith (now sizes) (now codes) (now floats) (now limits)) (now goals) (now history) (now joints) ≡ 0) × (length (now scratch) ≡ 16) × (length (now slopes) ≡ 16) ⌝ }
+    ensures { λ r. ⌜ r ≡ valueIn (sheetOf sizes codes floats limits) (lent goals) (lent history) (lent joints) ⌝ }
+    ensures { λ _. ⌜ now (slopes .exit) ≡ splice (lent slopes) 0 (finiteDiffSlopes (sheetOf sizes codes floats limits) (lent goals) (lent history) (lent joints)) ⌝ }
+    ensures { λ _. ⌜ now (scratch .exit) ≡ splice (lent scratch) 0 (lent joints) ⌝ }
+{
+    let w = weights::weight_priors();
+    let counts = shape::links(sizes);
+    let n = joints.len();
+    let xopt = block_from(history, 0, n);
+    let prev_state = block_from(history, n, n);
+    let prev_state2 = block_from(history, 2 * n, n);
+    finite_diff::gradient_finite_diff(
+        &w,
+        counts,
+        codes,
+        floats,
+        limits,
+        goals,
+        xopt,
+        prev_state,
+        prev_state2,
+        joints,
+        scratch,
+        slopes,
+    )
+}
+
+// The first n of x and of d, and v, as bytes.
+fn put_answers(
+    x: &[f64],
+    v: f64,
+    d: &[f64],
+    n: usize,
+    scratch: &mut [u8],
+    value: &mut [u8],
+    slopes: &mut [u8],
+)
+    requires { ⌜ (n ≤ length (now x)) × (n ≤ length (now d)) ⌝ }
+    requires { ⌜ (8 * n ≤ length (now scratch)) × (8 ≤ length (now value)) × (8 * n ≤ length (now slopes)) ⌝ }
+    ensures { λ _. ⌜ now (scratch .exit) ≡ splice (lent scratch) 0 (bytesOf (take n (lent x))) ⌝ }
+    ensures { λ _. ⌜ now (value .exit) ≡ splice (lent value) 0 (bytesOf (v ∷ [])) ⌝ }
+    ensures { λ _. ⌜ now (slopes .exit) ≡ splice (lent slopes) 0 (bytesOf (take n (lent d))) ⌝ }
+{
+    let one = [v];
+    bytes_lent::put_floats(&x[..n], 0, scratch);
+    bytes_lent::put_floats(&one, 0, value);
+    bytes_lent::put_floats(&d[..n], 0, slopes);
+}
+
+pub(crate) fn objective(
+    sizes: &[u16],
+    codes: &[u16],
+    floats: &[f64],
+    limits: &[f64],
+    goals: &[f64],
+    history: &[f64],
+    joints: &[f64],
+    value: &mut [u8],
+) -> u16
+    ensures number { λ r. ⌜ r ≡ objectiveNumber (sheetOf sizes codes floats limits) (lent goals) (lent history) (lent joints) (roomOf value) ⌝ }
+    ensures value { λ r. ⌜ now (value .exit) ≡ outputOf r value (objectiveValue (sheetOf sizes codes floats limits) (lent goals) (lent history) (lent joints)) ⌝ }
+{
+    let aimed = aimed_number(sizes, codes, floats, limits, goals, history, joints);
+    let nine = lent::room_refusal(1, bytes_lent::room(value.len()));
+    let number = lent::first_of(aimed, nine);
+    if number != 0 {
+        return number;
+    }
+    let one = [value_on(sizes, codes, floats, limits, goals, history, joints)];
+    bytes_lent::put_floats(&one, 0, value);
+    0
+}
+
+pub(crate) fn gradient(
+    sizes: &[u16],
+    codes: &[u16],
+    floats: &[f64],
+    limits: &[f64],
+    goals: &[f64],
+    history: &[f64],
+    joints: &[f64],
+    scratch: &mut [u8],
+    value: &mut [u8],
+    slopes: &mut [u8],
+) -> u16
+    ensures number { λ r. ⌜ r ≡ slopesNumber (sheetOf sizes codes floats limits) (lent goals) (lent history) (lent joints) (roomOf scratch) (roomOf value) (roomOf slopes) ⌝ }
+    ensures scratch { λ r. ⌜ now (scratch .exit) ≡ outputOf r scratch (lent joints) ⌝ }
+    ensures value { λ r. ⌜ now (value .exit) ≡ outputOf r value (objectiveValue (sheetOf sizes codes floats limits) (lent goals) (lent history) (lent joints)) ⌝ }
+    ensures slopes { λ r. ⌜ now (slopes .exit) ≡ outputOf r slopes (gradientSlopes (sheetOf sizes codes floats limits) (lent goals) (lent history) (lent joints)) ⌝ }
+{
+    let number = slopes_number(
+        sizes,
+        codes,
+        floats,
+        limits,
+        goals,
+        history,
+        joints,
+        scratch.len(),
+        value.len(),
+        slopes.len(),
+    );
+    if number != 0 {
+        return number;
+    }
+    let mut x = [0.0; 16];
+    let mut d = [0.0; 16];
+    let v = gradient_on(
+        sizes,
+        codes,
+        floats,
+        limits,
+        goals,
+        history,
+        joints,
+        &mut x,
+        &mut d,
+    );
+    put_answers(&x, v, &d, joints.len(), scratch, value, slopes);
+    0
+}
+
+pub(crate) fn gradient_finite_diff(
+    sizes: &[u16],
+    codes: &[u16],
+    floats: &[f64],
+    limits: &[f64],
+    goals: &[f64],
+    history: &[f64],
+    joints: &[f64],
+    scratch: &mut [u8],
+    value: &mut [u8],
+    slopes: &mut [u8],
+) -> u16
+    ensures number { λ r. ⌜ r ≡ slopesNumber (sheetOf sizes codes floats limits) (lent goals) (lent history) (lent joints) (roomOf scratch) (roomOf value) (roomOf slopes) ⌝ }
+    ensures scratch { λ r. ⌜ now (scratch .exit) ≡ outputOf r scratch (lent joints) ⌝ }
+    ensures value { λ r. ⌜ now (value .exit) ≡ outputOf r value (objectiveValue (sheetOf sizes codes floats limits) (lent goals) (lent history) (lent joints)) ⌝ }
+    ensures slopes { λ r. ⌜ now (slopes .exit) ≡ outputOf r slopes (finiteDiffSlopes (sheetOf sizes codes floats limits) (lent goals) (lent history) (lent joints)) ⌝ }
+{
+    let number = slopes_number(
+        sizes,
+        codes,
+        floats,
+        limits,
+        goals,
+        history,
+        joints,
+        scratch.len(),
+        value.len(),
+        slopes.len(),
+    );
+    if number != 0 {
+        return number;
+    }
+    let mut x = [0.0; 16];
+    let mut d = [0.0; 16];
+    let v = finite_diff_on(
+        sizes,
+        codes,
+        floats,
+        limits,
+        goals,
+        history,
+        joints,
+        &mut x,
+        &mut d,
+    );
+    put_answers(&x, v, &d, joints.len(), scratch, value, slopes);
+    0
+}

@@ -1,0 +1,136 @@
+// The calls on the objective, as little-endian bytes. The answer is the refusal's number, 0 where the call is accepted.
+use crate::objective_lists;
+use lent_bytes::lent;
+ghost use mathlib.Core.Path.{_≡_};
+ghost use Rattle.lent_bytes.specs.SheetLists.{sheetIn, blockIn, goalsIn, historyIn, roomOf};
+ghost use Rattle.arm_bytes.specs.ArmCalls.{outputOf};
+ghost use Rattle.objective_bytes.specs.ObjectiveCalls.{objectiveNumber, slopesNumber, objectiveValue, gradientSlopes, finiteDiffSlopes};
+
+pub fn objective(
+    sizes: &[u8],
+    codes: &[u8],
+    floats: &[u8],
+    limits: &[u8],
+    goals: &[u8],
+    history: &[u8],
+    joints: &[u8],
+    value: &mut [u8],
+) -> u32
+    ensures number { λ r. ⌜ r ≡ objectiveNumber (sheetIn sizes codes floats limits) (goalsIn goals) (historyIn history) (blockIn joints) (roomOf value) ⌝ }
+    ensures value { λ r. ⌜ now (value .exit) ≡ outputOf r value (objectiveValue (sheetIn sizes codes floats limits) (goalsIn goals) (historyIn history) (blockIn joints)) ⌝ }
+{
+    let mut s = [0u16; 5];
+    let mut c = [0u16; 64];
+    let mut f = [0.0; 448];
+    let mut l = [0.0; 32];
+    let mut g = [0.0; 52];
+    let mut h = [0.0; 64];
+    let mut x = [0.0; 16];
+    let ns = lent::numbers(sizes, &mut s);
+    let nc = lent::numbers(codes, &mut c);
+    let nf = lent::floats(floats, &mut f);
+    let nl = lent::floats(limits, &mut l);
+    let ng = lent::floats(goals, &mut g);
+    let nh = lent::floats(history, &mut h);
+    let nx = lent::floats(joints, &mut x);
+    objective_lists::objective(
+        &s[..ns],
+        &c[..nc],
+        &f[..nf],
+        &l[..nl],
+        &g[..ng],
+        &h[..nh],
+        &x[..nx],
+        value,
+    ) as u32
+}
+
+pub fn gradient(
+    sizes: &[u8],
+    codes: &[u8],
+    floats: &[u8],
+    limits: &[u8],
+    goals: &[u8],
+    history: &[u8],
+    joints: &[u8],
+    scratch: &mut [u8],
+    value: &mut [u8],
+    slopes: &mut [u8],
+) -> u32
+    ensures number { λ r. ⌜ r ≡ slopesNumber (sheetIn sizes codes floats limits) (goalsIn goals) (historyIn history) (blockIn joints) (roomOf scratch) (roomOf value) (roomOf slopes) ⌝ }
+    ensures scratch { λ r. ⌜ now (scratch .exit) ≡ outputOf r scratch (blockIn joints) ⌝ }
+    ensures value { λ r. ⌜ now (value .exit) ≡ outputOf r value (objectiveValue (sheetIn sizes codes floats limits) (goalsIn goals) (historyIn history) (blockIn joints)) ⌝ }
+    ensures slopes { λ r. ⌜ now (slopes .exit) ≡ outputOf r slopes (gradientSlopes (sheetIn sizes codes floats limits) (goalsIn goals) (historyIn history) (blockIn joints)) ⌝ }
+{
+    let mut s = [0u16; 5];
+    let mut c = [0u16; 64];
+    let mut f = [0.0; 448];
+    let mut l = [0.0; 32];
+    let mut g = [0.0; 52];
+    let mut h = [0.0; 64];
+    let mut x = [0.0; 16];
+    let ns = lent::numbers(sizes, &mut s);
+    let nc = lent::numbers(codes, &mut c);
+    let nf = lent::floats(floats, &mut f);
+    let nl = lent::floats(limits, &mut l);
+    let ng = lent::floats(goals, &mut g);
+    let nh = lent::floats(history, &mut h);
+    let nx = lent::floats(joints, &mut x);
+    objective_lists::gradient(
+        &s[..ns],
+        &c[..nc],
+        &f[..nf],
+        &l[..nl],
+        &g[..ng],
+        &h[..nh],
+        &x[..nx],
+        scratch,
+        value,
+        slopes,
+    ) as u32
+}
+
+pub fn gradient_finite_diff(
+    sizes: &[u8],
+    codes: &[u8],
+    floats: &[u8],
+    limits: &[u8],
+    goals: &[u8],
+    history: &[u8],
+    joints: &[u8],
+    scratch: &mut [u8],
+    value: &mut [u8],
+    slopes: &mut [u8],
+) -> u32
+    ensures number { λ r. ⌜ r ≡ slopesNumber (sheetIn sizes codes floats limits) (goalsIn goals) (historyIn history) (blockIn joints) (roomOf scratch) (roomOf value) (roomOf slopes) ⌝ }
+    ensures scratch { λ r. ⌜ now (scratch .exit) ≡ outputOf r scratch (blockIn joints) ⌝ }
+    ensures value { λ r. ⌜ now (value .exit) ≡ outputOf r value (objectiveValue (sheetIn sizes codes floats limits) (goalsIn goals) (historyIn history) (blockIn joints)) ⌝ }
+    ensures slopes { λ r. ⌜ now (slopes .exit) ≡ outputOf r slopes (finiteDiffSlopes (sheetIn sizes codes floats limits) (goalsIn goals) (historyIn history) (blockIn joints)) ⌝ }
+{
+    let mut s = [0u16; 5];
+    let mut c = [0u16; 64];
+    let mut f = [0.0; 448];
+    let mut l = [0.0; 32];
+    let mut g = [0.0; 52];
+    let mut h = [0.0; 64];
+    let mut x = [0.0; 16];
+    let ns = lent::numbers(sizes, &mut s);
+    let nc = lent::numbers(codes, &mut c);
+    let nf = lent::floats(floats, &mut f);
+    let nl = lent::floats(limits, &mut l);
+    let ng = lent::floats(goals, &mut g);
+    let nh = lent::floats(history, &mut h);
+    let nx = lent::floats(joints, &mut x);
+    objective_lists::gradient_finite_diff(
+        &s[..ns],
+        &c[..nc],
+        &f[..nf],
+        &l[..nl],
+        &g[..ng],
+        &h[..nh],
+        &x[..nx],
+        scratch,
+        value,
+        slopes,
+    ) as u32
+}

@@ -1,0 +1,2 @@
+pub mod Aimed
+pub mod Rows

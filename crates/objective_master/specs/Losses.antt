@@ -1,0 +1,191 @@
+-- What each objective costs: of the poses P after each link, and the joints x that were walked.
+use mathlib.Core.Path.{_≡_, refl, sym, ap, _∙_}
+use mathlib.Core.Bool.{cond}
+use mathlib.Core.List.{List, [], _∷_, _++_, map}
+use Prim.Native.Nat.{ℕ, zero, suc, _+_, _-_, _*_, _≤_}
+use native.Mathlib.Omega.{arith}
+use lib.Dec.{eqb}
+use lib.Ieee.{Float, nan}
+use lib.ListN.{length, getD, length-map}
+use Rattle.standins.specs.Num.{_⊕_, nought, absOf}
+use Rattle.geometry.specs.declared.vector.Vec3.{Vec3}
+use Rattle.geometry.specs.declared.quaternion.Quat.{Quat}
+use Rattle.geometry.specs.declared.pose.Pose.{Pose}
+use Rattle.geometry.specs.Vector.{subOf}
+use Rattle.geometry.specs.Quaternion.{inverseOf, productOf, rotateOf, scaledAxisOf}
+use Rattle.lists.specs.Runs.{runs}
+use Rattle.lists.specs.Listed.{listed}
+use Rattle.sheet.specs.Chain.{total, chainStart, chain-start-next, chain-start-total, jointOf, joint-mono, joint-last, joints}
+use Rattle.spacetime.specs.Floats.{vecAt, quatAt}
+use Rattle.spacetime.specs.Frames.{endOf, Chains}
+use Rattle.manipulability.specs.View.{View}
+use Rattle.manipulability.specs.Jacobian.{manipulabilityOf}
+use Rattle.groove.specs.Loss.{matchEEPosiDoF, matchEERotaDoF, eachJointLimits, minimizeVelocity, minimizeAcceleration, minimizeJerk, maximizeManipulability, velocityOf, accelerationOf, jerkOf, noNumber}
+use Rattle.self_collision.specs.Pairs.{pair, chainLength, chainLengths, pairLoss, pairLosses, Paired, lengths-count}
+use Rattle.objective_master.specs.Objective.{Objective, MatchEEPosiDoF, MatchEERotaDoF, EachJointLimits, MinimizeVelocity, MinimizeAcceleration, MinimizeJerk, MaximizeManipulability, SelfCollision, goalObjectives, motionObjectives, pairObjective, objectives, sections}
+
+-- what the objectives look at beside poses and joints: links per chain, codes, limits, goals, and the three last joint blocks of the history
+pub record Given : Type 0 where
+  pub sizes : List ℕ
+  pub codes : List ℕ
+  pub limits : List Float
+  pub goals : List Float
+  pub xopt : List Float
+  pub «prev_state» : List Float
+  pub «prev_state2» : List Float
+
+abbrev pub given : List ℕ → List ℕ → List Float → List Float → List Float → List Float → List Float → Given
+given ns cs limits goals xopt prev prev2 =
+    record { sizes = ns; codes = cs; limits = limits; goals = goals; xopt = xopt; «prev_state» = prev; «prev_state2» = prev2 }
+
+-- component a of a vector: x, y, z for 0, 1, 2
+unfoldable pub componentOf : Vec3 → ℕ → Float
+componentOf v a = cond (eqb a 0) (v .x) (cond (eqb a 1) (v .y) (v .z))
+
+-- chain c's goal, 13 floats: position, quaternion, tolerances
+unfoldable pub goalPosition : List Float → ℕ → Vec3
+goalPosition goals c = vecAt goals (13 * c)
+
+unfoldable pub goalQuat : List Float → ℕ → Quat
+goalQuat goals c = quatAt goals (13 * c + 3)
+
+unfoldable pub toleranceAt : List Float → ℕ → ℕ → Float
+toleranceAt goals c a = getD goals (13 * c + 7 + a) nan
+
+-- a chain's end position as its goal sees it
+unfoldable pub offGoal : List Float → ℕ → Pose → Vec3
+offGoal goals c end = rotateOf (inverseOf (goalQuat goals c)) (subOf (end .position) (goalPosition goals c))
+
+-- the turn from a chain's goal to its end, as an axis whose length is the angle
+unfoldable pub turnFromGoal : List Float → ℕ → Pose → Vec3
+turnFromGoal goals c end = scaledAxisOf (productOf (inverseOf (goalQuat goals c)) (end .rotation))
+
+-- what being off the goal along axis a costs, and turned about it
+unfoldable pub offLoss : List Float → ℕ → Pose → ℕ → Float
+offLoss goals c end a = matchEEPosiDoF (componentOf (offGoal goals c end) a) (toleranceAt goals c a)
+
+unfoldable pub turnLoss : List Float → ℕ → Pose → ℕ → Float
+turnLoss goals c end a = matchEERotaDoF (nought ⊕ absOf (componentOf (turnFromGoal goals c end) a)) (toleranceAt goals c (a + 3))
+
+-- what joint j's limits cost
+unfoldable pub limitLoss : List Float → List Float → ℕ → Float
+limitLoss limits x j = eachJointLimits (getD x j nan) (getD limits (2 * j) nan) (getD limits (2 * j + 1) nan)
+
+-- what an objective costs
+unfoldable pub lossOf : Given → (ℕ → Pose) → List Float → Objective → Float
+lossOf g P x (MatchEEPosiDoF c a) = offLoss (g .goals) c (endOf (g .sizes) P c) a
+lossOf g P x (MatchEERotaDoF c a) = turnLoss (g .goals) c (endOf (g .sizes) P c) a
+lossOf g P x (EachJointLimits j) = limitLoss (g .limits) x j
+lossOf g P x MinimizeVelocity = minimizeVelocity (velocityOf x (g .xopt))
+lossOf g P x MinimizeAcceleration = minimizeAcceleration (accelerationOf x (g .xopt) (g .«prev_state»))
+lossOf g P x MinimizeJerk = minimizeJerk (jerkOf x (g .xopt) (g .«prev_state») (g .«prev_state2»))
+lossOf g P x MaximizeManipulability = maximizeManipulability (manipulabilityOf P (g .sizes) (g .codes))
+lossOf g P x (SelfCollision arm j k) = pairLoss (g .sizes) P arm (noNumber x) (pair j k)
+
+-- the objectives of a sheet
+abbrev pub objectivesOf : Given → List Objective
+objectivesOf g = objectives (chainLengths (g .sizes) (g .codes))
+
+-- what they cost, in their order
+unfoldable pub lossesOf : Given → (ℕ → Pose) → List Float → List Float
+lossesOf g P x = map (lossOf g P x) (objectivesOf g)
+
+-- ---- by sections, as code writes them
+
+-- the six of a chain's goal
+unfoldable pub offLosses : List Float → ℕ → Pose → List Float
+offLosses goals c end = offLoss goals c end 0 ∷ offLoss goals c end 1 ∷ offLoss goals c end 2 ∷ []
+
+unfoldable pub turnLosses : List Float → ℕ → Pose → List Float
+turnLosses goals c end = turnLoss goals c end 0 ∷ turnLoss goals c end 1 ∷ turnLoss goals c end 2 ∷ []
+
+unfoldable pub poseLosses : List Float → ℕ → Pose → List Float
+poseLosses goals c end = offLosses goals c end ++ turnLosses goals c end
+
+unfoldable pub goalLosses : List ℕ → List Float → (ℕ → Pose) → ℕ → List Float
+goalLosses ns goals P c = poseLosses goals c (endOf ns P c)
+
+-- the one of joint j's limits
+unfoldable pub limitLosses : List Float → List Float → ℕ → List Float
+limitLosses limits x j = limitLoss limits x j ∷ []
+
+-- the three of the joints' changes
+unfoldable pub changeLosses : List Float → List Float → List Float → List Float → List Float
+changeLosses x xopt prev prev2 = minimizeVelocity (velocityOf x xopt) ∷ minimizeAcceleration (accelerationOf x xopt prev) ∷ minimizeJerk (jerkOf x xopt prev prev2) ∷ []
+
+-- the four of all joints: those, and the manipulability
+unfoldable pub motionLosses : (ℕ → Pose) → List ℕ → List ℕ → List Float → List Float → List Float → List Float → List Float
+motionLosses P ns cs x xopt prev prev2 = changeLosses x xopt prev prev2 ++ (maximizeManipulability (manipulabilityOf P ns cs) ∷ [])
+
+-- what is lent for it: an accepted sheet, its limits, goals and history, joints, and a view of the poses
+pub record Lent (g : Given) (x base tail : List Float) (from to : ℕ) : Type 0 where
+  pub paired : Paired (g .sizes) (g .codes)
+  pub chains : Chains (g .sizes)
+  pub view : View base tail from to (length (g .codes))
+  pub values : length x ≡ joints (g .codes)
+  pub pairs : 2 * length x ≤ length (g .limits)
+  pub each : 13 * length (g .sizes) ≤ length (g .goals)
+  pub now₀ : length x ≤ length (g .xopt)
+  pub now₁ : length x ≤ length (g .«prev_state»)
+  pub now₂ : length x ≤ length (g .«prev_state2»)
+
+-- ---- laws
+pub losses-many : (g : Given) (P : ℕ → Pose) (x : List Float) → length (lossesOf g P x) ≡ length (objectivesOf g)
+unfolding lossesOf
+losses-many g P x = length-map (objectivesOf g) (lossOf g P x)
+
+pub goal-length : (ns : List ℕ) (goals : List Float) (P : ℕ → Pose) (c : ℕ) → length (goalLosses ns goals P c) ≡ 6
+unfolding goalLosses poseLosses offLosses turnLosses
+goal-length ns goals P c = refl
+
+pub limit-length : (limits x : List Float) (j : ℕ) → length (limitLosses limits x j) ≡ 1
+unfolding limitLosses
+limit-length limits x j = refl
+
+pub change-length : (x xopt prev prev2 : List Float) → length (changeLosses x xopt prev prev2) ≡ 3
+unfolding changeLosses
+change-length x xopt prev prev2 = refl
+
+pub motion-length : (P : ℕ → Pose) (ns cs : List ℕ) (x xopt prev prev2 : List Float) → length (motionLosses P ns cs x xopt prev prev2) ≡ 4
+unfolding motionLosses changeLosses
+motion-length P ns cs x xopt prev prev2 = refl
+
+-- the joints of all chains
+total-append : (xs ys : List ℕ) → total (xs ++ ys) ≡ total xs + total ys
+unfolding total
+total-append [] ys = omega arith
+total-append (x ∷ xs) ys = omega (arith, total-append xs ys)
+
+lengths-to : (ns cs : List ℕ) (n : ℕ) → total (listed (chainLength ns cs) n) ≡ jointOf cs (chainStart ns n)
+unfolding listed runs total chainLength chainStart jointOf
+lengths-to ns cs zero = refl
+lengths-to ns cs (suc n) =
+    let z : 0 + n ≡ n = omega arith in
+    let f : chainLength ns cs (0 + n) ≡ jointOf cs (chainStart ns (n + 1)) - jointOf cs (chainStart ns n) = rw z in
+    let e : chainStart ns (n + 1) ≡ chainStart ns (suc n) = chain-start-next ns n in
+    let m = joint-mono cs (chainStart ns n) (chainStart ns (suc n)) (omega arith) in
+    total-append (listed (chainLength ns cs) n) (chainLength ns cs (0 + n) ∷ []) ∙ omega (arith, lengths-to ns cs n, ap (jointOf cs) e)
+
+pub lengths-total : (ns cs : List ℕ) → total ns ≡ length cs → total (chainLengths ns cs) ≡ joints cs
+unfolding chainLengths
+lengths-total ns cs w = lengths-to ns cs (length ns) ∙ ap (jointOf cs) (chain-start-total ns ∙ w) ∙ joint-last cs
+
+module _ (g : Given) (P : ℕ → Pose) (x : List Float) where
+  abbrev ns : List ℕ
+  ns = g .sizes
+
+  abbrev lens : List ℕ
+  lens = chainLengths (g .sizes) (g .codes)
+
+  -- the list of losses by sections
+  pub losses-sections : total (g .sizes) ≡ length (g .codes) → length x ≡ joints (g .codes)
+      → lossesOf g P x ≡ runs (goalLosses (g .sizes) (g .goals) P) 0 (length (g .sizes))
+      ++ (runs (limitLosses (g .limits) x) 0 (length x)
+      ++ (motionLosses P (g .sizes) (g .codes) x (g .xopt) (g .«prev_state») (g .«prev_state2»)
+      ++ pairLosses (g .sizes) P (chainLengths (g .sizes) (g .codes)) (noNumber x)))
+  unfolding lossesOf lossOf goalObjectives motionObjectives pairObjective goalLosses poseLosses offLosses turnLosses limitLosses changeLosses motionLosses pairLosses
+  losses-sections w v =
+      let rest : List Float = motionLosses P ns (g .codes) x (g .xopt) (g .«prev_state») (g .«prev_state2») ++ pairLosses ns P lens (noNumber x) in
+      sections (lossOf g P x) lens
+      ∙ ap (λ (n : ℕ). runs (goalLosses ns (g .goals) P) 0 n ++ (runs (limitLosses (g .limits) x) 0 (total lens) ++ rest)) (lengths-count ns (g .codes))
+      ∙ ap (λ (n : ℕ). runs (goalLosses ns (g .goals) P) 0 (length ns) ++ (runs (limitLosses (g .limits) x) 0 n ++ rest)) (lengths-total ns (g .codes) w ∙ sym v)

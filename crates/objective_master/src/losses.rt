@@ -1,0 +1,281 @@
+// objective.rs and `relaxed_ik`: what the objectives cost, in their order, of poses read through a view.
+use geometry::pose::Pose;
+use geometry::quaternion;
+use geometry::vector;
+use geometry::vector::Vec3;
+use groove::objective;
+use manipulability::robot;
+use manipulability::view;
+use self_collision::pairs;
+use spacetime::floats;
+use standins::cut;
+ghost use mathlib.Core.Path.{_≡_};
+ghost use Prim.Native.Nat.{_+_, _*_, _≤_, _<_};
+ghost use lib.ListN.{length};
+ghost use Rattle.lists.specs.Splice.{splice};
+ghost use Rattle.lists.specs.Runs.{runs};
+ghost use Rattle.sheet.specs.Chain.{total};
+ghost use Rattle.spacetime.specs.Floats.{flatVec};
+ghost use Rattle.spacetime.specs.Frames.{Chains};
+ghost use Rattle.manipulability.specs.View.{viewOf, View};
+ghost use Rattle.manipulability.specs.Jacobian.{Counted};
+ghost use Rattle.objective_master.specs.Losses.{toleranceAt, offGoal, turnFromGoal, offLosses, turnLosses, poseLosses, goalLosses, limitLosses, changeLosses, motionLosses, given, lossesOf, Lent};
+ghost use Rattle.objective_master.specs.Standing.{walkedAgain, endAgain, isRaised, Kept, Stands, Standing};
+
+fn tolerance(goals: &[f64], c: usize, a: usize) -> f64
+    requires { ⌜ 13 * c + 7 + a < length (now goals) ⌝ }
+    ensures { λ r. ⌜ r ≡ toleranceAt (now (goals .entry)) c a ⌝ }
+{
+    goals[13 * c + 7 + a]
+}
+
+// A chain's end position as its goal sees it.
+fn off_goal(goals: &[f64], c: usize, end: Pose) -> Vec3
+    requires { ⌜ 13 * c + 13 ≤ length (now goals) ⌝ }
+    ensures { λ r. ⌜ r ≡ offGoal (now (goals .entry)) c end ⌝ }
+{
+    let q = quaternion::inverse(floats::get_quat(goals, 13 * c + 3));
+    let p = end.position;
+    quaternion::rotate(q, vector::sub(p, floats::get_vec(goals, 13 * c)))
+}
+
+// The turn from a chain's goal to its end.
+fn turn_from_goal(goals: &[f64], c: usize, end: Pose) -> Vec3
+    requires { ⌜ 13 * c + 13 ≤ length (now goals) ⌝ }
+    ensures { λ r. ⌜ r ≡ turnFromGoal (now (goals .entry)) c end ⌝ }
+{
+    let q = quaternion::inverse(floats::get_quat(goals, 13 * c + 3));
+    let p = end.rotation;
+    quaternion::scaled_axis(quaternion::product(q, p))
+}
+
+// Along the three axes; the point is worked out once.
+fn off_losses(goals: &[f64], c: usize, end: Pose) -> Vec3
+    requires { ⌜ 13 * c + 13 ≤ length (now goals) ⌝ }
+    ensures { λ r. ⌜ flatVec r ≡ offLosses (now (goals .entry)) c end ⌝ }
+{
+    let v = off_goal(goals, c, end);
+    Vec3 {
+        x: objective::match_ee_posi_dof(v.x, tolerance(goals, c, 0)),
+        y: objective::match_ee_posi_dof(v.y, tolerance(goals, c, 1)),
+        z: objective::match_ee_posi_dof(v.z, tolerance(goals, c, 2)),
+    }
+}
+
+// About the three axes; the turn is worked out once.
+fn turn_losses(goals: &[f64], c: usize, end: Pose) -> Vec3
+    requires { ⌜ 13 * c + 13 ≤ length (now goals) ⌝ }
+    ensures { λ r. ⌜ flatVec r ≡ turnLosses (now (goals .entry)) c end ⌝ }
+{
+    let v = turn_from_goal(goals, c, end);
+    Vec3 {
+        x: objective::match_ee_rota_dof(0.0 + cut::abs(v.x), tolerance(goals, c, 3)),
+        y: objective::match_ee_rota_dof(0.0 + cut::abs(v.y), tolerance(goals, c, 4)),
+        z: objective::match_ee_rota_dof(0.0 + cut::abs(v.z), tolerance(goals, c, 5)),
+    }
+}
+
+fn put_six(goals: &[f64], c: usize, end: Pose, at: usize, out: &mut [f64])
+    requires { ⌜ (13 * c + 13 ≤ length (now goals)) × (at + 6 ≤ length (now out)) ⌝ }
+    ensures { λ _. ⌜ now (out .exit) ≡ splice (now (out .entry)) at (poseLosses (now (goals .entry)) c end) ⌝ }
+{
+    let offs = off_losses(goals, c, end);
+    let turns = turn_losses(goals, c, end);
+    floats::put_vec(out, at, offs);
+    floats::put_vec(out, at + 3, turns);
+}
+
+fn walked_again(from: usize, to: usize, link: usize) -> bool
+    ensures { λ r. ⌜ r ≡ walkedAgain from to link ⌝ }
+{
+    if link < from {
+        return false;
+    }
+    link < to
+}
+
+// Chain c's goal. If its last link was not walked again, the six losses stand already.
+fn put_goal(
+    goals: &[f64],
+    base: &[f64],
+    tail: &[f64],
+    from: usize,
+    to: usize,
+    link: usize,
+    c: usize,
+    out: &mut [f64],
+)
+    requires { ⌜ (13 * c + 13 ≤ length (now goals)) × (6 * c + 6 ≤ length (now out)) ⌝ }
+    requires { ⌜ View (now base) (now tail) from to (link + 1) ⌝ }
+    requires { ⌜ Kept (walkedAgain from to link) (6 * c)
+        (poseLosses (now goals) c (viewOf (now base) (now tail) from to link)) (now out) ⌝ }
+    ensures { λ _. ⌜ now (out .exit) ≡ splice (now (out .entry)) (6 * c)
+        (poseLosses (now (goals .entry)) c (viewOf (now (base .entry)) (now (tail .entry)) from to link)) ⌝ }
+{
+    if walked_again(from, to, link) {
+        let end = view::pose(base, tail, from, to, link);
+        put_six(goals, c, end, 6 * c, out);
+        return;
+    }
+}
+
+// The goals of all chains, from the front on.
+fn put_goals(
+    sizes: &[u16],
+    goals: &[f64],
+    base: &[f64],
+    tail: &[f64],
+    from: usize,
+    to: usize,
+    out: &mut [f64],
+)
+    requires { ⌜ Chains (now sizes) × (13 * length (now sizes) ≤ length (now goals)) ⌝ }
+    requires { ⌜ View (now base) (now tail) from to (total (now sizes)) ⌝ }
+    requires { ⌜ Stands (goalLosses (now sizes) (now goals) (viewOf (now base) (now tail) from to)) 6
+        (endAgain (now sizes) from to) 0 (length (now sizes)) (now out) ⌝ }
+    ensures { λ _. ⌜ now (out .exit) ≡ splice (now (out .entry)) 0
+        (runs (goalLosses (now (sizes .entry)) (now (goals .entry)) (viewOf (now (base .entry)) (now (tail .entry)) from to)) 0 (length (now (sizes .entry)))) ⌝ }
+{
+    let mut l: usize = 0;
+    let mut c = 0;
+    while c < sizes.len() {
+        let end = l + sizes[c] as usize;
+        put_goal(goals, base, tail, from, to, end - 1, c, out);
+        l = end;
+        c += 1;
+    }
+}
+
+fn is_raised(joint: usize, j: usize) -> bool
+    ensures { λ r. ⌜ r ≡ isRaised joint j ⌝ }
+{
+    if joint == 65535 {
+        return true;
+    }
+    joint == j
+}
+
+// Joint j's limits. If another joint was raised, the loss stands already.
+fn put_limit(limits: &[f64], x: &[f64], joint: usize, j: usize, at: usize, out: &mut [f64])
+    requires { ⌜ (j < length (now x)) × (2 * j + 2 ≤ length (now limits)) × (at < length (now out)) ⌝ }
+    requires { ⌜ Kept (isRaised joint j) at (limitLosses (now limits) (now x) j) (now out) ⌝ }
+    ensures { λ _. ⌜ now (out .exit) ≡ splice (now (out .entry)) at (limitLosses (now (limits .entry)) (now (x .entry)) j) ⌝ }
+{
+    if is_raised(joint, j) {
+        out[at] = objective::each_joint_limits(x[j], limits[2 * j], limits[2 * j + 1]);
+        return;
+    }
+}
+
+fn put_limits(limits: &[f64], x: &[f64], joint: usize, at: usize, out: &mut [f64])
+    requires { ⌜ 2 * length (now x) ≤ length (now limits) ⌝ }
+    requires { ⌜ Stands (limitLosses (now limits) (now x)) 1 (isRaised joint) at (length (now x)) (now out) ⌝ }
+    ensures { λ _. ⌜ now (out .exit) ≡ splice (now (out .entry)) at
+        (runs (limitLosses (now (limits .entry)) (now (x .entry))) 0 (length (now (x .entry)))) ⌝ }
+{
+    let mut j: usize = 0;
+    while j < x.len() {
+        put_limit(limits, x, joint, j, at + j, out);
+        j += 1;
+    }
+}
+
+// Velocity, acceleration and jerk.
+fn put_changes(
+    x: &[f64],
+    xopt: &[f64],
+    prev_state: &[f64],
+    prev_state2: &[f64],
+    at: usize,
+    out: &mut [f64],
+)
+    requires { ⌜ (length (now x) ≤ length (now xopt)) × (length (now x) ≤ length (now «prev_state»)) × (length (now x) ≤ length (now «prev_state2»))
+        × (at + 3 ≤ length (now out)) ⌝ }
+    ensures { λ _. ⌜ now (out .exit) ≡ splice (now (out .entry)) at
+        (changeLosses (now (x .entry)) (now (xopt .entry)) (now («prev_state» .entry)) (now («prev_state2» .entry))) ⌝ }
+{
+    let v = objective::joint_changes(x, xopt, prev_state, prev_state2);
+    let three = Vec3 {
+        x: objective::minimize_velocity(v.velocity),
+        y: objective::minimize_acceleration(v.acceleration),
+        z: objective::minimize_jerk(v.jerk),
+    };
+    floats::put_vec(out, at, three);
+}
+
+// The four of all joints.
+fn put_motion(
+    sizes: &[u16],
+    codes: &[u16],
+    xopt: &[f64],
+    prev_state: &[f64],
+    prev_state2: &[f64],
+    x: &[f64],
+    base: &[f64],
+    tail: &[f64],
+    from: usize,
+    to: usize,
+    at: usize,
+    out: &mut [f64],
+)
+    requires { ⌜ (length (now x) ≤ length (now xopt)) × (length (now x) ≤ length (now «prev_state»)) × (length (now x) ≤ length (now «prev_state2»))
+        × (at + 4 ≤ length (now out)) ⌝ }
+    requires { ⌜ Counted (now sizes) (now codes) × View (now base) (now tail) from to (length (now codes)) ⌝ }
+    ensures { λ _. ⌜ now (out .exit) ≡ splice (now (out .entry)) at
+        (motionLosses (viewOf (now (base .entry)) (now (tail .entry)) from to) (now (sizes .entry)) (now (codes .entry))
+        (now (x .entry)) (now (xopt .entry)) (now («prev_state» .entry)) (now («prev_state2» .entry))) ⌝ }
+{
+    let m = robot::get_manipulability_immutable(sizes, codes, base, tail, from, to);
+    put_changes(x, xopt, prev_state, prev_state2, at, out);
+    out[at + 3] = objective::maximize_manipulability(m);
+}
+
+// The losses of all objectives, from the front of `out` on. Links from..to were walked again, and `joint` was raised (65535: all joints are new):
+// the losses of objectives that read neither stand in `out` already, and are left there.
+pub fn put_losses(
+    sizes: &[u16],
+    codes: &[u16],
+    limits: &[f64],
+    goals: &[f64],
+    xopt: &[f64],
+    prev_state: &[f64],
+    prev_state2: &[f64],
+    x: &[f64],
+    base: &[f64],
+    tail: &[f64],
+    from: usize,
+    to: usize,
+    joint: usize,
+    out: &mut [f64],
+)
+    requires { ⌜ Lent
+        (given (now sizes) (now codes) (now limits) (now goals) (now xopt) (now «prev_state») (now «prev_state2»))
+        (now x) (now base) (now tail) from to ⌝ }
+    requires { ⌜ Standing
+        (given (now sizes) (now codes) (now limits) (now goals) (now xopt) (now «prev_state») (now «prev_state2»))
+        (viewOf (now base) (now tail) from to) (now x) from to joint (now out) ⌝ }
+    ensures { λ _. ⌜ now (out .exit) ≡ splice (now (out .entry)) 0 (lossesOf
+        (given (now (sizes .entry)) (now (codes .entry)) (now (limits .entry)) (now (goals .entry)) (now (xopt .entry)) (now («prev_state» .entry)) (now («prev_state2» .entry)))
+        (viewOf (now (base .entry)) (now (tail .entry)) from to) (now (x .entry))) ⌝ }
+{
+    put_goals(sizes, goals, base, tail, from, to, out);
+    let n = 6 * sizes.len();
+    put_limits(limits, x, joint, n, out);
+    let m = n + x.len();
+    put_motion(
+        sizes,
+        codes,
+        xopt,
+        prev_state,
+        prev_state2,
+        x,
+        base,
+        tail,
+        from,
+        to,
+        m,
+        out,
+    );
+    let no_number = objective::no_number(x);
+    pairs::put_pairs(sizes, codes, base, tail, from, to, no_number, m + 4, out);
+}

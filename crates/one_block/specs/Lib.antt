@@ -1,0 +1,4 @@
+pub mod Record
+pub mod Laws
+pub mod Numbers
+pub mod Slope

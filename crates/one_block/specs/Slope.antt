@@ -1,0 +1,231 @@
+-- The slopes: losses of a copy that is read from the record, its own links walked again and the others from the first walk.
+use mathlib.Core.Path.{_≡_, refl, sym, ap, _∙_}
+use mathlib.Core.Bool.{Bool, true, false, cond, _&&_, _||_, true≢false}
+use mathlib.Core.Logic.{_⊎_, inl, inr, ⊎-elim}
+use mathlib.Core.List.{List, [], _∷_, map}
+use Prim.Native.Nat.{ℕ, _+_, _-_, _*_, _≤_, _<_}
+use native.Mathlib.Omega.{arith}
+use lib.Dec.{eqb, leb}
+use lib.Ieee.{Float, nan, neg}
+use lib.ListN.{length, getD, set, take, drop, length-map, List·getD-eq-default}
+use lib.Seq.{getD-take, getD-drop, getD-set-other, length-take-le, take-all}
+use borrow.Author.Tests.{lt-ltb, le-ltb, le-leb, lt-leb, eqb-true, eqb-false, eq-eqb, ne-eqb}
+use Rattle.standins.specs.Num.{_⊕_, _⊘_}
+use Rattle.geometry.specs.declared.pose.Pose.{Pose}
+use Rattle.lists.specs.Splice.{splice, length-splice, getD-splice-in}
+use Rattle.lists.specs.Runs.{runs, runs-ext, length-runs, getD-runs}
+use Rattle.lists.specs.Listed.{listed, listed-turn}
+use Rattle.sheet.specs.Chain.{endIn, total, jointOf, joints-fixed, joints-one, joint-more, below-or, end-past}
+use Rattle.spacetime.specs.Floats.{poseAt, flat, pose-is}
+use Rattle.spacetime.specs.Walk.{poseOf, poses, poses-length, framesOf, listPose}
+use Rattle.manipulability.specs.View.{viewOf}
+use Rattle.groove.specs.Loss.{noNumber}
+use Rattle.objective_master.specs.Objective.{Objective}
+use Rattle.objective_master.specs.Losses.{Given, lossesOf, objectivesOf, losses-many}
+use Rattle.objective_master.specs.Weights.{weightedOf}
+use Rattle.objective_master.specs.Standing.{walkedAgain, isRaised, touched, Standing}
+use Rattle.objective_master.specs.Untouched.{standing-again, losses-ext}
+use Rattle.gradient.specs.Slopes.{step, slopeBetween}
+use Rattle.gradient.specs.Gradient.{raisedBy, posesOf, lossesAt, gradientAt}
+use Rattle.gradient.specs.Ready.{Ready}
+use Rattle.gradient.specs.Made.{slope-is}
+use Rattle.one_block.specs.Record.{copyOf}
+use Rattle.one_block.specs.Laws.{copy-joint, pose-first, pose-outside, joint-small, joint-in-block}
+use Rattle.one_block.specs.Numbers.{numbers-raised}
+
+-- the weighted slope from the losses fs to those of poses P and joints y
+unfoldable pub slopeTo : List Float → Given → List Float → (ℕ → Pose) → List Float → Float
+slopeTo ws g fs P y = weightedOf ws (objectivesOf g) (listed (slopeBetween fs (lossesOf g P y)) (length (objectivesOf g)))
+
+-- link l's turn in the list of slopes: its joint's entry is set, if it has a joint
+unfoldable pub slopesAfter : List Float → Given → List Float → List Float → ℕ → List Float → List Float
+slopesAfter ws g gs x l slopes = cond (eqb (getD (g .codes) l 0) 0) slopes (set slopes (jointOf (g .codes) l) (gradientAt ws g gs x (jointOf (g .codes) l)))
+
+-- fs has the n losses of block x in front, hs has room for as many, and there is room for the slopes
+pub record Known (ws : List Float) (g : Given) (gs x : List Float) (n : ℕ) (fs hs slopes : List Float) : Type 0 where
+  pub weights : length ws ≡ 8
+  pub many : n ≡ length (objectivesOf g)
+  pub losses : take n fs ≡ lossesAt g gs x
+  pub first-room : n ≤ length fs
+  pub raised-room : n ≤ length hs
+  pub slopes-room : length x ≤ length slopes
+
+-- ---- laws: views
+neither : (b : Bool) → (b && false) ≡ false
+neither true = refl
+neither false = refl
+
+pub walked-false : (from to l : ℕ) → (l < from) ⊎ (to ≤ l) → walkedAgain from to l ≡ false
+unfolding walkedAgain
+walked-false from to l o =
+    ⊎-elim (λ (b : l < from). rw (lt-leb from l b)) (λ (b : to ≤ l). rw (le-ltb l to b) (neither (leb from l))) o
+
+view-outside : (base tail : List Float) (from to l : ℕ) → walkedAgain from to l ≡ false → viewOf base tail from to l ≡ listPose base l
+unfolding viewOf walkedAgain listPose
+view-outside base tail from to l q = rw q
+
+view-again : (base tail : List Float) (from to l : ℕ) → from ≤ l → l < to → viewOf base tail from to l ≡ poseAt tail (7 * (l - from))
+unfolding viewOf
+view-again base tail from to l a b = rw (le-leb from l a, lt-ltb l to b)
+
+-- the poses from link k on, read from the part of the record that holds them
+tail-pose : (ns cs : List ℕ) (gs y record₀ frames : List Float) (a k n l : ℕ) → frames ≡ splice record₀ a (runs (poses ns cs gs y) k n) → a + 7 * n ≤ length record₀
+    → k ≤ l → l < k + n → poseAt (drop a frames) (7 * (l - k)) ≡ poseOf ns cs gs y l
+unfolding poses
+tail-pose ns cs gs y record₀ frames a k n l e room h b =
+    let many : length (runs (poses ns cs gs y) k n) ≡ n * 7 = length-runs (poses ns cs gs y) 7 (poses-length ns cs gs y) k n in
+    let back : k + (l - k) ≡ l = omega arith in
+    pose-is (drop a frames) (7 * (l - k)) (poseOf ns cs gs y l)
+    (λ r c.
+    let i : 7 * (l - k) + r ≡ (l - k) * 7 + r = omega arith in
+    getD-drop a frames (7 * (l - k) + r) nan
+    ∙ ap (λ (f : List Float). getD f (a + (7 * (l - k) + r)) nan) e
+    ∙ getD-splice-in record₀ a (runs (poses ns cs gs y) k n) (7 * (l - k) + r) nan (omega arith) (omega arith)
+    ∙ ap (λ (m : ℕ). getD (runs (poses ns cs gs y) k n) m nan) i
+    ∙ getD-runs (poses ns cs gs y) 7 (poses-length ns cs gs y) k n (l - k) r nan (omega arith) c
+    ∙ ap (λ (m : ℕ). getD (flat (poseOf ns cs gs y m)) r nan) back)
+
+-- ---- losses copied to the front of another list
+front-at : (rest ys : List Float) (i : ℕ) → i < length ys → getD (splice rest 0 ys) i nan ≡ getD ys i nan
+front-at rest ys i h = let z : 0 + i ≡ i = omega arith in rw z at (getD-splice-in rest 0 ys i nan (omega arith) h)
+
+pub standing-front : (g : Given) (P : ℕ → Pose) (y : List Float) (from to joint n : ℕ) (fs hs cur : List Float) → Standing g P y from to joint fs → n ≡ length (objectivesOf g)
+    → n ≤ length fs → n ≤ length hs → cur ≡ splice hs 0 (take n fs) → Standing g P y from to joint cur
+standing-front g P y from to joint n fs hs cur s e h k made =
+    let t : length (take n fs) ≡ n = length-take-le n fs h in
+    let T : Objective → Bool = touched (g .sizes) from to joint in
+    record {
+      room = omega (arith, ap length made, length-splice hs 0 (take n fs) (omega arith));
+      stands = λ i q.
+          ⊎-elim
+          (λ (l : i < n). ap (λ (c : List Float). getD c i nan) made ∙ front-at hs (take n fs) i (omega arith) ∙ getD-take n fs i nan l ∙ s .stands i q)
+          (λ (l : n ≤ i). absurd (true≢false (sym (List·getD-eq-default (map T (objectivesOf g)) true (omega (arith, length-map (objectivesOf g) T))) ∙ q)))
+          (below-or i n);
+    }
+
+-- ---- the slope as code makes it
+pub slope-made : (ws : List Float) (g : Given) (P : ℕ → Pose) (y fs rest hs : List Float) (n : ℕ) → n ≡ length (objectivesOf g) → hs ≡ splice rest 0 (lossesOf g P y)
+    → weightedOf ws (objectivesOf g) (listed (slopeBetween fs hs) n) ≡ slopeTo ws g fs P y
+unfolding slopeTo listed slopeBetween
+slope-made ws g P y fs rest hs n e made =
+    let ls : List Float = lossesOf g P y in
+    let len : length ls ≡ length (objectivesOf g) = losses-many g P y in
+    ap (weightedOf ws (objectivesOf g))
+    (runs-ext (λ i. slopeBetween fs hs i ∷ []) (λ i. slopeBetween fs ls i ∷ []) 0 n
+    (λ i h.
+    let z : 0 + i ≡ i = omega arith in
+    rw z (ap (λ (v : Float). ((neg (getD fs i nan) ⊕ v) ⊘ step) ∷ []) (ap (λ (c : List Float). getD c i nan) made ∙ front-at rest ls i (omega arith))))
+    ∙ ap (λ (m : ℕ). listed (slopeBetween fs ls) m) e)
+
+-- ---- a turn in the list of slopes
+pub slopes-turn : (ws : List Float) (g : Given) (gs x xs cur new : List Float) (l : ℕ) → cur ≡ splice xs 0 (listed (gradientAt ws g gs x) (jointOf (g .codes) l)) → length cur ≡ length xs
+    → jointOf (g .codes) (l + 1) ≤ length xs → new ≡ slopesAfter ws g gs x l cur → new ≡ splice xs 0 (listed (gradientAt ws g gs x) (jointOf (g .codes) (l + 1)))
+unfolding slopesAfter
+slopes-turn ws g gs x xs cur new l e same room made = made ∙ go (eqb (getD (g .codes) l 0) 0) refl
+  where
+    go : (t : Bool) → eqb (getD (g .codes) l 0) 0 ≡ t
+        → cond t cur (set cur (jointOf (g .codes) l) (gradientAt ws g gs x (jointOf (g .codes) l))) ≡ splice xs 0 (listed (gradientAt ws g gs x) (jointOf (g .codes) (l + 1)))
+    go true q =
+        let z : jointOf (g .codes) (l + 1) ≡ jointOf (g .codes) l = omega (arith, joint-more (g .codes) l, joints-fixed (getD (g .codes) l 0) (eqb-true (getD (g .codes) l 0) 0 q)) in
+        e ∙ ap (λ (m : ℕ). splice xs 0 (listed (gradientAt ws g gs x) m)) (sym z)
+    go false q =
+        let z : jointOf (g .codes) (l + 1) ≡ jointOf (g .codes) l + 1 = omega (arith, joint-more (g .codes) l, joints-one (getD (g .codes) l 0) (eqb-false (getD (g .codes) l 0) 0 q)) in
+        listed-turn (gradientAt ws g gs x) xs cur (jointOf (g .codes) l) (gradientAt ws g gs x (jointOf (g .codes) l)) (omega arith) same e refl
+        ∙ ap (λ (m : ℕ). splice xs 0 (listed (gradientAt ws g gs x) m)) (sym z)
+
+module _ (ws : List Float) (g : Given) (gs x : List Float) (l : ℕ) (slopes : List Float) where
+  pub slopes-fixed : getD (g .codes) l 0 ≡ 0 → slopes ≡ slopesAfter ws g gs x l slopes
+  unfolding slopesAfter
+  slopes-fixed z = rw (eq-eqb (getD (g .codes) l 0) 0 z)
+
+  pub slopes-joint : (getD (g .codes) l 0 ≡ 0 → ⊥) → set slopes (jointOf (g .codes) l) (gradientAt ws g gs x (jointOf (g .codes) l)) ≡ slopesAfter ws g gs x l slopes
+  unfolding slopesAfter
+  slopes-joint z = rw (ne-eqb (getD (g .codes) l 0) 0 z)
+
+-- the record at a joint's turn: in front the first walk, from `a` on the links k.. of the copy
+module _ (g : Given) (gs x : List Float) (ready : Ready g gs x) (k : ℕ) (inside : k < length (g .codes)) (turns : getD (g .codes) k 0 ≡ 0 → ⊥)
+    (frames record₀ : List Float) (a : ℕ) (first : take (7 * length (g .codes)) frames ≡ framesOf (g .sizes) (g .codes) gs x)
+    (again : frames ≡ splice record₀ a (runs (poses (g .sizes) (g .codes) gs (copyOf x (jointOf (g .codes) k))) k (endIn (g .sizes) k - k)))
+    (room : a + 7 * (endIn (g .sizes) k - k) ≤ length record₀) where
+  abbrev ns : List ℕ
+  ns = g .sizes
+
+  abbrev cs : List ℕ
+  cs = g .codes
+
+  abbrev j : ℕ
+  j = jointOf (g .codes) k
+
+  abbrev end : ℕ
+  end = endIn (g .sizes) k
+
+  abbrev y : List Float
+  y = copyOf x (jointOf (g .codes) k)
+
+  abbrev seen : ℕ → Pose
+  seen = viewOf frames (drop a frames) k (endIn (g .sizes) k)
+
+  first-pose : (l : ℕ) → l < length cs → listPose frames l ≡ poseOf ns cs gs x l
+  unfolding listPose
+  first-pose l h = pose-first ns cs gs x frames l h first
+
+  -- what is seen is the copy's walk
+  pub view-copy : (l : ℕ) → l < length cs → seen l ≡ poseOf ns cs gs y l
+  view-copy l h =
+      let w : total ns ≡ length cs = ready .sheet .whole in
+      let q = end-past ns k (omega arith) in
+      let outside : (l < k) ⊎ (end ≤ l) → seen l ≡ poseOf ns cs gs y l =
+      λ o. view-outside frames (drop a frames) k end l (walked-false k end l o) ∙ first-pose l h ∙ sym (pose-outside ns cs gs x k turns l (omega arith) (omega arith) o) in
+      ⊎-elim
+      (λ (b : l < k). outside (inl b))
+      (λ (b : k ≤ l).
+      ⊎-elim
+      (λ (c : l < end). view-again frames (drop a frames) k end l b c ∙ tail-pose ns cs gs y record₀ frames a k (end - k) l again room b (omega (arith, q)))
+      (λ (c : end ≤ l). outside (inr c))
+      (below-or l end))
+      (below-or l k)
+
+  pub losses-copy : lossesOf g seen y ≡ lossesAt g gs y
+  unfolding lossesAt
+  losses-copy = losses-ext g seen (posesOf g gs y) y (ready .chains) (ready .paired) (λ l h. view-copy l (omega (arith, ready .sheet .whole)))
+
+  raised : y ≡ raisedBy step x j
+  raised = copy-joint x j (omega (arith, joint-small ns cs gs x (ready .sheet) k (omega arith)))
+
+  values : (i : ℕ) → isRaised j i ≡ false → getD x i nan ≡ getD y i nan
+  unfolding isRaised raisedBy
+  values i q =
+      let ne : i ≡ j → ⊥ = λ e. true≢false (sym (rw (eq-eqb j i (sym e)) (either (eqb j 65535))) ∙ q) in
+      sym (getD-set-other x j i (getD x j nan ⊕ step) nan ne) ∙ ap (λ (z : List Float). getD z i nan) (sym raised)
+    where
+      either : (b : Bool) → (b || true) ≡ true
+      either true = refl
+      either false = refl
+
+  -- the first walk's losses stand where the copy touches nothing
+  pub standing-copy : (n : ℕ) (fs : List Float) → n ≡ length (objectivesOf g) → n ≤ length fs → take n fs ≡ lossesAt g gs x → Standing g seen y k end j fs
+  unfolding lossesAt
+  standing-copy n fs e h known =
+      standing-again g (listPose frames) seen x y k end j (λ l q. sym (view-outside frames (drop a frames) k end l q)) values
+      (numbers-raised x j (joint-in-block ns cs gs x (ready .sheet) k inside turns) ∙ ap noNumber (sym raised))
+      fs (omega arith)
+      (λ i l.
+      sym (getD-take n fs i nan (omega arith)) ∙ ap (λ (z : List Float). getD z i nan)
+      (known ∙ sym (losses-ext g (listPose frames) (posesOf g gs x) x (ready .chains) (ready .paired) (λ l h. first-pose l (omega (arith, ready .sheet .whole))))))
+
+  -- so the slope is the gradient's entry
+  pub slope-copy : (ws fs : List Float) → take (length (objectivesOf g)) fs ≡ lossesAt g gs x → slopeTo ws g fs seen y ≡ gradientAt ws g gs x j
+  unfolding slopeTo
+  slope-copy ws fs known =
+      let n : ℕ = length (objectivesOf g) in
+      slope-is ws g gs x fs (lossesOf g seen y) n j refl known
+      (take-all n (lossesOf g seen y) (omega (arith, losses-many g seen y)) ∙ losses-copy ∙ ap (lossesAt g gs) raised)
+
+  -- the same, of a block, an end and a joint number that are known to be these
+  module _ (block : List Float) (to : ℕ) (is : block ≡ y) (ends : to ≡ end) where
+    pub standing-at : (joint n : ℕ) (fs : List Float) → joint ≡ j → n ≡ length (objectivesOf g) → n ≤ length fs → take n fs ≡ lossesAt g gs x
+        → Standing g (viewOf frames (drop a frames) k to) block k to joint fs
+    standing-at joint n fs number e h known = rw (is, ends, number) (standing-copy n fs e h known)
+
+    pub slope-at : (ws fs : List Float) → take (length (objectivesOf g)) fs ≡ lossesAt g gs x → slopeTo ws g fs (viewOf frames (drop a frames) k to) block ≡ gradientAt ws g gs x j
+    slope-at ws fs known = rw (is, ends) (slope-copy ws fs known)

@@ -1,0 +1,2 @@
+pub mod OneBlockCalls
+pub mod OneBlockLaws

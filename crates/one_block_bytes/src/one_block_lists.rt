@@ -1,0 +1,206 @@
+// What the byte call of the one-block gradient does once its lists are decoded; outputs are bytes.
+use lent_bytes::lent as bytes_lent;
+use objective_bytes::objective_lists;
+use objective_master::weights;
+use one_block::grad;
+use one_block_calls::slopes as room;
+use refusals::lent;
+use refusals::shape;
+use sheet::chain;
+ghost use mathlib.Core.Path.{_≡_};
+ghost use mathlib.Core.List.{[], _∷_};
+ghost use Prim.Native.Nat.{_*_, _≤_};
+ghost use lib.ListN.{length, take};
+ghost use Rattle.lists.specs.Splice.{splice};
+ghost use Rattle.lent_bytes.specs.Lent.{roomIn, numberRoomIn, bytesOf, bytesOfNumbers};
+ghost use Rattle.lent_bytes.specs.SheetLists.{lent, sheetWith, sheetOf, roomOf};
+ghost use Rattle.arm_bytes.specs.ArmCalls.{outputOf};
+ghost use Rattle.objective_bytes.specs.ObjectiveCalls.{aimedNumber, valueIn, objectiveValue, gradientSlopes};
+ghost use Rattle.one_block_bytes.specs.OneBlockCalls.{entriesIn, oneBlockNumber, jointsIn, linksIn, posesIn, numberRoomOf, numbersOutputOf};
+ghost use Rattle.one_block_bytes.specs.OneBlockLaws.{Counted};
+
+fn entries(sizes: &[u16], codes: &[u16], floats: &[f64], limits: &[f64]) -> usize
+    requires { ⌜ Counted (sheetWith (now sizes) (now codes) (now floats) (now limits)) ⌝ }
+    ensures { λ r. ⌜ r ≡ entriesIn (sheetOf sizes codes floats limits) ⌝ }
+{
+    grad::entries(shape::links(sizes), codes)
+}
+
+// Sizes of outputs are in bytes.
+fn one_block_number(
+    sizes: &[u16],
+    codes: &[u16],
+    floats: &[f64],
+    limits: &[f64],
+    goals: &[f64],
+    history: &[f64],
+    joints: &[f64],
+    value: usize,
+    slopes: usize,
+    record_joints: usize,
+    record_links: usize,
+    record_poses: usize,
+) -> u16
+    ensures { λ r. ⌜ r ≡ oneBlockNumber (sheetOf sizes codes floats limits) (lent goals) (lent history) (lent joints)
+        (roomIn value) (roomIn slopes) (numberRoomIn «record_joints») (numberRoomIn «record_links») (roomIn «record_poses») ⌝ }
+{
+    let aimed = objective_lists::aimed_number(sizes, codes, floats, limits, goals, history, joints);
+    if aimed != 0 {
+        return aimed;
+    }
+    let n = chain::joint_number(codes, codes.len());
+    let first = lent::room_refusal(1, bytes_lent::room(value));
+    let second = lent::room_refusal(n, bytes_lent::room(slopes));
+    let third = room::record_refusal(
+        entries(sizes, codes, floats, limits),
+        bytes_lent::number_room(record_joints),
+        bytes_lent::number_room(record_links),
+        bytes_lent::room(record_poses),
+    );
+    lent::first_of(first, lent::first_of(second, third))
+}
+
+// Value, slopes and record of the decoded block.
+fn one_block_on(
+    sizes: &[u16],
+    codes: &[u16],
+    floats: &[f64],
+    limits: &[f64],
+    goals: &[f64],
+    history: &[f64],
+    block: &mut [f64],
+    slopes: &mut [f64],
+    record_joints: &mut [u16],
+    record_links: &mut [u16],
+    record_poses: &mut [f64],
+) -> f64
+    requires { ⌜ aimedNumber (sheetWith (now sizes) (now codes) (now floats) (now limits)) (now goals) (now history) (now block) ≡ 0 ⌝ }
+    requires { ⌜ (length (now slopes) ≡ 16) × (length (now «record_joints») ≡ 320) × (length (now «record_links») ≡ 320) × (length (now «record_poses») ≡ 2240) ⌝ }
+    ensures { λ r. ⌜ r ≡ valueIn (sheetOf sizes codes floats limits) (lent goals) (lent history) (lent block) ⌝ }
+    ensures { λ _. ⌜ now (block .exit) ≡ now (block .entry) ⌝ }
+    ensures { λ _. ⌜ now (slopes .exit) ≡ splice (lent slopes) 0 (gradientSlopes (sheetOf sizes codes floats limits) (lent goals) (lent history) (lent block)) ⌝ }
+    ensures { λ _. ⌜ (now («record_joints» .exit) ≡ splice (lent «record_joints») 0 (jointsIn (sheetOf sizes codes floats limits)))
+        × (now («record_links» .exit) ≡ splice (lent «record_links») 0 (linksIn (sheetOf sizes codes floats limits)))
+        × (now («record_poses» .exit) ≡ splice (lent «record_poses») 0 (posesIn (sheetOf sizes codes floats limits) (lent block))) ⌝ }
+{
+    let w = weights::weight_priors();
+    let counts = shape::links(sizes);
+    let n = block.len();
+    let xopt = objective_lists::block_from(history, 0, n);
+    let prev_state = objective_lists::block_from(history, n, n);
+    let prev_state2 = objective_lists::block_from(history, 2 * n, n);
+    grad::gradient(
+        &w,
+        counts,
+        codes,
+        floats,
+        limits,
+        goals,
+        xopt,
+        prev_state,
+        prev_state2,
+        block,
+        slopes,
+        record_joints,
+        record_links,
+        record_poses,
+    )
+}
+
+// v and the first n slopes, as bytes.
+fn put_slopes(v: f64, d: &[f64], n: usize, value: &mut [u8], slopes: &mut [u8])
+    requires { ⌜ (n ≤ length (now d)) × (8 ≤ length (now value)) × (8 * n ≤ length (now slopes)) ⌝ }
+    ensures { λ _. ⌜ now (value .exit) ≡ splice (lent value) 0 (bytesOf (v ∷ [])) ⌝ }
+    ensures { λ _. ⌜ now (slopes .exit) ≡ splice (lent slopes) 0 (bytesOf (take n (lent d))) ⌝ }
+{
+    let one = [v];
+    bytes_lent::put_floats(&one, 0, value);
+    bytes_lent::put_floats(&d[..n], 0, slopes);
+}
+
+// The first n entries of a record, as bytes.
+fn put_record(
+    joints: &[u16],
+    links: &[u16],
+    poses: &[f64],
+    n: usize,
+    record_joints: &mut [u8],
+    record_links: &mut [u8],
+    record_poses: &mut [u8],
+)
+    requires { ⌜ (n ≤ length (now joints)) × (n ≤ length (now links)) × (7 * n ≤ length (now poses)) ⌝ }
+    requires { ⌜ (2 * n ≤ length (now «record_joints»)) × (2 * n ≤ length (now «record_links»)) × (8 * (7 * n) ≤ length (now «record_poses»)) ⌝ }
+    ensures { λ _. ⌜ now («record_joints» .exit) ≡ splice (lent «record_joints») 0 (bytesOfNumbers (take n (lent joints))) ⌝ }
+    ensures { λ _. ⌜ now («record_links» .exit) ≡ splice (lent «record_links») 0 (bytesOfNumbers (take n (lent links))) ⌝ }
+    ensures { λ _. ⌜ now («record_poses» .exit) ≡ splice (lent «record_poses») 0 (bytesOf (take (7 * n) (lent poses))) ⌝ }
+{
+    let wide = 7 * n;
+    bytes_lent::put_numbers(&joints[..n], 0, record_joints);
+    bytes_lent::put_numbers(&links[..n], 0, record_links);
+    bytes_lent::put_floats(&poses[..wide], 0, record_poses);
+}
+
+// The block is the first n of x.
+pub(crate) fn gradient_one_block(
+    sizes: &[u16],
+    codes: &[u16],
+    floats: &[f64],
+    limits: &[f64],
+    goals: &[f64],
+    history: &[f64],
+    x: &mut [f64],
+    n: usize,
+    value: &mut [u8],
+    slopes: &mut [u8],
+    record_joints: &mut [u8],
+    record_links: &mut [u8],
+    record_poses: &mut [u8],
+) -> u16
+    requires { ⌜ n ≤ length (now x) ⌝ }
+    ensures number { λ r. ⌜ r ≡ oneBlockNumber (sheetOf sizes codes floats limits) (lent goals) (lent history) (take n (lent x))
+        (roomOf value) (roomOf slopes) (numberRoomOf «record_joints») (numberRoomOf «record_links») (roomOf «record_poses») ⌝ }
+    ensures value { λ r. ⌜ now (value .exit) ≡ outputOf r value (objectiveValue (sheetOf sizes codes floats limits) (lent goals) (lent history) (take n (lent x))) ⌝ }
+    ensures slopes { λ r. ⌜ now (slopes .exit) ≡ outputOf r slopes (gradientSlopes (sheetOf sizes codes floats limits) (lent goals) (lent history) (take n (lent x))) ⌝ }
+    ensures record { λ r. ⌜ (now («record_joints» .exit) ≡ numbersOutputOf r «record_joints» (jointsIn (sheetOf sizes codes floats limits)))
+        × (now («record_links» .exit) ≡ numbersOutputOf r «record_links» (linksIn (sheetOf sizes codes floats limits)))
+        × (now («record_poses» .exit) ≡ outputOf r «record_poses» (posesIn (sheetOf sizes codes floats limits) (take n (lent x)))) ⌝ }
+{
+    let number = one_block_number(
+        sizes,
+        codes,
+        floats,
+        limits,
+        goals,
+        history,
+        &x[..n],
+        value.len(),
+        slopes.len(),
+        record_joints.len(),
+        record_links.len(),
+        record_poses.len(),
+    );
+    if number != 0 {
+        return number;
+    }
+    let mut d = [0.0; 16];
+    let mut rj = [0u16; 320];
+    let mut rl = [0u16; 320];
+    let mut rp = [0.0; 2240];
+    let v = one_block_on(
+        sizes,
+        codes,
+        floats,
+        limits,
+        goals,
+        history,
+        &mut x[..n],
+        &mut d,
+        &mut rj,
+        &mut rl,
+        &mut rp,
+    );
+    put_slopes(v, &d, n, value, slopes);
+    let m = entries(sizes, codes, floats, limits);
+    put_record(&rj, &rl, &rp, m, record_joints, record_links, record_poses);
+    0
+}

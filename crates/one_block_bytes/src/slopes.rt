@@ -1,0 +1,62 @@
+// The gradient on one block, as little-endian bytes. The answer is the refusal's number, 0 where the call is accepted.
+use crate::one_block_lists;
+use lent_bytes::lent;
+ghost use mathlib.Core.Path.{_≡_};
+ghost use Rattle.lent_bytes.specs.SheetLists.{sheetIn, blockIn, goalsIn, historyIn, roomOf};
+ghost use Rattle.arm_bytes.specs.ArmCalls.{outputOf};
+ghost use Rattle.objective_bytes.specs.ObjectiveCalls.{objectiveValue, gradientSlopes};
+ghost use Rattle.one_block_bytes.specs.OneBlockCalls.{oneBlockNumber, jointsIn, linksIn, posesIn, numberRoomOf, numbersOutputOf};
+
+// The joints are decoded once, into the block that is raised; their bytes are only read.
+pub fn gradient_one_block(
+    sizes: &[u8],
+    codes: &[u8],
+    floats: &[u8],
+    limits: &[u8],
+    goals: &[u8],
+    history: &[u8],
+    joints: &[u8],
+    value: &mut [u8],
+    slopes: &mut [u8],
+    record_joints: &mut [u8],
+    record_links: &mut [u8],
+    record_poses: &mut [u8],
+) -> u32
+    ensures number { λ r. ⌜ r ≡ oneBlockNumber (sheetIn sizes codes floats limits) (goalsIn goals) (historyIn history) (blockIn joints)
+        (roomOf value) (roomOf slopes) (numberRoomOf «record_joints») (numberRoomOf «record_links») (roomOf «record_poses») ⌝ }
+    ensures value { λ r. ⌜ now (value .exit) ≡ outputOf r value (objectiveValue (sheetIn sizes codes floats limits) (goalsIn goals) (historyIn history) (blockIn joints)) ⌝ }
+    ensures slopes { λ r. ⌜ now (slopes .exit) ≡ outputOf r slopes (gradientSlopes (sheetIn sizes codes floats limits) (goalsIn goals) (historyIn history) (blockIn joints)) ⌝ }
+    ensures record { λ r. ⌜ (now («record_joints» .exit) ≡ numbersOutputOf r «record_joints» (jointsIn (sheetIn sizes codes floats limits)))
+        × (now («record_links» .exit) ≡ numbersOutputOf r «record_links» (linksIn (sheetIn sizes codes floats limits)))
+        × (now («record_poses» .exit) ≡ outputOf r «record_poses» (posesIn (sheetIn sizes codes floats limits) (blockIn joints))) ⌝ }
+{
+    let mut s = [0u16; 5];
+    let mut c = [0u16; 64];
+    let mut f = [0.0; 448];
+    let mut l = [0.0; 32];
+    let mut g = [0.0; 52];
+    let mut h = [0.0; 64];
+    let mut x = [0.0; 16];
+    let ns = lent::numbers(sizes, &mut s);
+    let nc = lent::numbers(codes, &mut c);
+    let nf = lent::floats(floats, &mut f);
+    let nl = lent::floats(limits, &mut l);
+    let ng = lent::floats(goals, &mut g);
+    let nh = lent::floats(history, &mut h);
+    let nx = lent::floats(joints, &mut x);
+    one_block_lists::gradient_one_block(
+        &s[..ns],
+        &c[..nc],
+        &f[..nf],
+        &l[..nl],
+        &g[..ng],
+        &h[..nh],
+        &mut x,
+        nx,
+        value,
+        slopes,
+        record_joints,
+        record_links,
+        record_poses,
+    ) as u32
+}

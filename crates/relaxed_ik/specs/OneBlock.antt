@@ -1,0 +1,28 @@
+-- The gradient on one block, by the state: its number, and its record.
+use mathlib.Core.Bool.{Bool}
+use mathlib.Core.List.{List}
+use Prim.Native.Nat.{ℕ}
+use lib.Ieee.{Float}
+use Rattle.one_block.specs.Record.{recordJoints, recordLinks, recordPoses}
+use Rattle.one_block_calls.specs.Room.{oneBlockRefusal}
+use Rattle.relaxed_ik.specs.declared.state.State.{State}
+use Rattle.relaxed_ik.specs.State.{linksUsed, codesUsed}
+use Rattle.relaxed_ik.specs.Aim.{ifAimed}
+use Rattle.relaxed_ik.specs.Objective.{linkFloats}
+
+-- 20, 21, 22, then 7, then 9, lent lists of so many slopes, joints, links and floats of poses
+unfoldable pub oneBlockKept : List ℕ → List ℕ → Bool → Bool → List Float → ℕ → ℕ → ℕ → ℕ → ℕ
+oneBlockKept ss cs goals started x slopes rj rl rp = ifAimed ss cs goals started (oneBlockRefusal (linksUsed ss) (codesUsed ss cs) x slopes rj rl rp)
+
+abbrev pub oneBlockNumberOf : State → List Float → ℕ → ℕ → ℕ → ℕ → ℕ
+oneBlockNumberOf s x slopes rj rl rp = oneBlockKept (s .arms .sizes) (s .arms .codes) (s .party .«has_goals») (s .party .started) x slopes rj rl rp
+
+-- the record's three lists
+abbrev pub recordJointsOf : State → List ℕ
+recordJointsOf s = recordJoints (linksUsed (s .arms .sizes)) (codesUsed (s .arms .sizes) (s .arms .codes))
+
+abbrev pub recordLinksOf : State → List ℕ
+recordLinksOf s = recordLinks (linksUsed (s .arms .sizes)) (codesUsed (s .arms .sizes) (s .arms .codes))
+
+abbrev pub recordPosesOf : State → List Float → List Float
+recordPosesOf s x = recordPoses (linksUsed (s .arms .sizes)) (codesUsed (s .arms .sizes) (s .arms .codes)) (linkFloats s) x

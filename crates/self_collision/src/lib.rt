@@ -1,0 +1,2 @@
+// The pairs of links that `relaxed_ik` adds for self collision.
+pub mod pairs;

@@ -1,0 +1,292 @@
+/* The rig's loop on the proved library: load the arm, set the goal, reset, then round after round a gradient, a small step down and an update.
+ *
+ *   cc -std=c99 -Iinclude examples/controller.c target/staticlib/libexports.a -o controller
+ *
+ * All lists are static and of fixed length; nothing is allocated. They are lent as they lie in memory, so this program is for a little-endian
+ * processor with IEEE 754 doubles, and says so if it is on another.
+ *
+ * -DGUARDED puts guard bytes around every list and looks at them, and at the lists that are only read, after every call (tools/controller_test).
+ * -DNO_GRADIENT is for a library without the gradient: the arm then goes to a taught block in equal steps. */
+#include "relaxed_ik.h"
+
+#include <stdio.h>
+#include <string.h>
+
+enum {
+    CHAINS = 1,
+    LINKS = 9,
+    JOINTS = 7,
+    /* All links, then for each joint those from its own to the end. The joints are links 1 to 4 and 6 to 8. */
+    RECORD = LINKS + 8 + 7 + 6 + 5 + 3 + 2 + 1,
+    ROUNDS = 200
+};
+
+#define MOST_MOVE 0.02 /* of a joint in one round */
+
+/* Every list: type, name, length. The first are only read by the calls, the others written; the history is both. */
+#define READ_LISTS(LIST)                                    \
+    LIST(uint16_t, sizes, 1 + CHAINS)                       \
+    LIST(uint16_t, codes, LINKS)                            \
+    LIST(double, floats, LINKS * RELAXED_IK_LINK_FLOATS)    \
+    LIST(double, limits, JOINTS * RELAXED_IK_LIMIT_FLOATS)  \
+    LIST(double, goals, CHAINS * RELAXED_IK_GOAL_FLOATS)    \
+    LIST(double, joints, JOINTS)
+#ifdef NO_GRADIENT
+#define GRADIENT_LISTS(LIST)
+#else
+#define GRADIENT_LISTS(LIST)                                \
+    LIST(double, slopes, JOINTS)                            \
+    LIST(uint16_t, record_joints, RECORD)                   \
+    LIST(uint16_t, record_links, RECORD)                    \
+    LIST(double, record_poses, RECORD * RELAXED_IK_POSE_FLOATS)
+#endif
+#define WRITTEN_LISTS(LIST)                                 \
+    LIST(double, history, JOINTS * RELAXED_IK_HISTORY_BLOCKS) \
+    LIST(double, new_history, JOINTS * RELAXED_IK_HISTORY_BLOCKS) \
+    LIST(double, ends, CHAINS * RELAXED_IK_POSE_FLOATS)     \
+    LIST(double, value, 1)                                  \
+    GRADIENT_LISTS(LIST)
+
+#ifdef GUARDED
+#define GUARD 64
+#define DECLARE(type, name, count)   \
+    static struct {                  \
+        uint8_t before[GUARD];       \
+        type at[count];              \
+        uint8_t after[GUARD];        \
+    } name;
+/* What the lists that are only read held before the call. */
+#define DECLARE_KEPT(type, name, count) static type kept_##name[count];
+READ_LISTS(DECLARE_KEPT)
+#else
+#define DECLARE(type, name, count) \
+    static struct {                \
+        type at[count];            \
+    } name;
+#endif
+READ_LISTS(DECLARE)
+WRITTEN_LISTS(DECLARE)
+
+/* A list as a call takes it. */
+#define READ(name) (const uint8_t *)name.at, sizeof name.at
+#define WRITE(name) (uint8_t *)name.at, sizeof name.at
+#define SHEET READ(sizes), READ(codes), READ(floats), READ(limits)
+
+static unsigned long calls;
+
+#ifdef GUARDED
+static void guard(uint8_t *bytes) {
+    int i;
+    for (i = 0; i < GUARD; i++) bytes[i] = (uint8_t)(0xa5 ^ i);
+}
+
+static int broken(const uint8_t *bytes) {
+    int i;
+    for (i = 0; i < GUARD; i++)
+        if (bytes[i] != (uint8_t)(0xa5 ^ i)) return 1;
+    return 0;
+}
+
+#define SET_GUARDS(type, name, count) guard(name.before), guard(name.after);
+#define KEEP(type, name, count) memcpy(kept_##name, name.at, sizeof name.at);
+#define LOOK(type, name, count)                                                      \
+    if (broken(name.before) || broken(name.after)) {                                 \
+        printf("FAULT: after call %lu the guard of " #name " is broken\n", calls);   \
+        faults++;                                                                    \
+    }
+#define COMPARE(type, name, count)                                                   \
+    if (memcmp(kept_##name, name.at, sizeof name.at) != 0) {                         \
+        printf("FAULT: call %lu wrote to " #name ", which it only reads\n", calls);  \
+        faults++;                                                                    \
+    }
+static unsigned long faults;
+#endif
+
+static void before_call(void) {
+#ifdef GUARDED
+    READ_LISTS(KEEP)
+#endif
+}
+
+static uint32_t after_call(uint32_t answer) {
+    calls++;
+#ifdef GUARDED
+    READ_LISTS(LOOK)
+    READ_LISTS(COMPARE)
+    WRITTEN_LISTS(LOOK)
+#endif
+    return answer;
+}
+
+/* A call with its guards looked at. */
+#define ASK(call) (before_call(), after_call(call))
+
+static const char *words(uint32_t answer) {
+    switch (answer) {
+    case RELAXED_IK_TAKEN: return "taken";
+    case RELAXED_IK_WRONG_SIZES: return "wrong sizes";
+    case RELAXED_IK_WRONG_LENGTHS: return "codes or floats of the wrong length";
+    case RELAXED_IK_UNLISTED_CODE: return "a code that is not listed";
+    case RELAXED_IK_WRONG_COUNT: return "too few or too many joints";
+    case RELAXED_IK_WRONG_LIMITS: return "wrong limits";
+    case RELAXED_IK_WRONG_LINK: return "a displacement or an offset out of range";
+    case RELAXED_IK_WRONG_JOINTS: return "a joint out of range";
+    case RELAXED_IK_WRONG_GOALS: return "wrong goals";
+    case RELAXED_IK_TOO_SHORT: return "a list that is too short";
+    default: return "a number that no call has";
+    }
+}
+
+/* Says what was asked and how it was answered; 1 if it was taken. */
+static int taken(const char *what, uint32_t answer) {
+    if (answer == RELAXED_IK_TAKEN) return 1;
+    printf("%s: refused, %lu: %s\n", what, (unsigned long)answer, words(answer));
+    return 0;
+}
+
+/* A mast, a slew ring on it, a boom of seven joints. Codes: 0 fixed, 13 turns about z, 12 about y, 11 about x. */
+static const uint16_t mast_codes[LINKS] = {0, 13, 12, 12, 11, 0, 12, 11, 13};
+static const double mast_floats[LINKS][RELAXED_IK_LINK_FLOATS] = {
+    {0.0, 0.0, 0.6, 1.0, 0.0, 0.0, 0.0},
+    {0.0, 0.0, 0.2, 1.0, 0.0, 0.0, 0.0},
+    {0.1, 0.0, 0.2, 1.0, 0.0, 0.0, 0.0},
+    {0.9, 0.0, 0.0, 1.0, 0.0, 0.0, 0.0},
+    {0.7, 0.0, 0.0, 1.0, 0.0, 0.0, 0.0},
+    {0.1, 0.0, 0.0, 0.8, 0.0, 0.6, 0.0},
+    {0.0, 0.0, 0.15, 1.0, 0.0, 0.0, 0.0},
+    {0.0, 0.0, 0.1, 1.0, 0.0, 0.0, 0.0},
+    {0.0, 0.0, 0.3, 1.0, 0.0, 0.0, 0.0},
+};
+static const double start[JOINTS] = {0.2, -0.3, 0.5, 0.1, 0.4, 0.1, 0.0};
+static const double taught[JOINTS] = {0.35, -0.2, 0.6, 0.05, 0.5, 0.0, 0.1};
+static const double tolerances[6] = {0.0, 0.0, 0.05, 0.1, 0.1, 3.2};
+
+static void fill(void) {
+    int i;
+#ifdef GUARDED
+    READ_LISTS(SET_GUARDS)
+    WRITTEN_LISTS(SET_GUARDS)
+#endif
+    sizes.at[0] = CHAINS;
+    sizes.at[1] = LINKS;
+    memcpy(codes.at, mast_codes, sizeof mast_codes);
+    memcpy(floats.at, mast_floats, sizeof mast_floats);
+    for (i = 0; i < JOINTS; i++) {
+        limits.at[2 * i] = -2.5;
+        limits.at[2 * i + 1] = 2.5;
+    }
+    memcpy(joints.at, start, sizeof start);
+}
+
+static int little_endian(void) {
+    const uint16_t one = 1;
+    const double two = 2.0;
+    const uint8_t two_bytes[8] = {0, 0, 0, 0, 0, 0, 0, 0x40};
+    return *(const uint8_t *)&one == 1 && sizeof two == 8 && memcmp(&two, two_bytes, 8) == 0;
+}
+
+static int pose(void) {
+    return taken("pose", ASK(relaxed_ik_pose(SHEET, READ(joints), WRITE(ends))));
+}
+
+static void print_end(const char *when) {
+    const double *e = ends.at;
+    printf("%s: end at %.4f %.4f %.4f, rotation %.4f %.4f %.4f %.4f\n", when, e[0], e[1], e[2], e[3], e[4], e[5], e[6]);
+}
+
+/* The block at hand becomes the history's first. The call never writes to the list it reads, so the new one is copied back. */
+static int update(void) {
+    if (!taken("update", ASK(relaxed_ik_update(SHEET, READ(history), READ(joints), WRITE(new_history))))) return 0;
+    memcpy(history.at, new_history.at, sizeof history.at);
+    return 1;
+}
+
+#ifndef NO_GRADIENT
+static double within(double v, double low, double high) {
+    return v < low ? low : v > high ? high : v;
+}
+
+static int rounds(void) {
+    double rate = 0.001, last = 0.0;
+    int round, i;
+    for (round = 0; round < ROUNDS; round++) {
+        if (!taken("gradient", ASK(relaxed_ik_gradient_one_block(SHEET, READ(goals), READ(history), READ(joints), WRITE(value), WRITE(slopes),
+                                   WRITE(record_joints), WRITE(record_links), WRITE(record_poses)))))
+            return 0;
+        if (round % 25 == 0 || round == ROUNDS - 1) {
+            /* The first walk's last pose is the end pose: no further call is needed for it. */
+            const double *e = &record_poses.at[RELAXED_IK_POSE_FLOATS * (LINKS - 1)];
+            printf("round %3d: objective %10.5f, end at %.4f %.4f %.4f\n", round, value.at[0], e[0], e[1], e[2]);
+        }
+        if (round > 0 && value.at[0] > last) rate *= 0.7;
+        last = value.at[0];
+        for (i = 0; i < JOINTS; i++) {
+            double to = joints.at[i] - within(rate * slopes.at[i], -MOST_MOVE, MOST_MOVE);
+            joints.at[i] = within(to, limits.at[2 * i], limits.at[2 * i + 1]);
+        }
+        if (!update()) return 0;
+    }
+    printf("record: %d links walked, the last one link %u with joint %u raised\n", RECORD, (unsigned)record_links.at[RECORD - 1],
+        (unsigned)record_joints.at[RECORD - 1]);
+    return 1;
+}
+#else
+static int rounds(void) {
+    int round, i;
+    puts("no gradient in this library: to the taught block in equal steps");
+    for (round = 1; round <= ROUNDS; round++) {
+        for (i = 0; i < JOINTS; i++) joints.at[i] = start[i] + (taught[i] - start[i]) * round / ROUNDS;
+        if (!update()) return 0;
+    }
+    return 1;
+}
+#endif
+
+int main(void) {
+    double good;
+    uint32_t answer;
+    if (!little_endian()) {
+        puts("this program lends its lists as they lie in memory, which is not little-endian here");
+        return 2;
+    }
+    fill();
+    if (!taken("load", ASK(relaxed_ik_load(SHEET)))) return 1;
+    printf("loaded: %d chain, %d links, %d joints\n", CHAINS, LINKS, JOINTS);
+
+    /* The goal: where the arm stands when it is at the taught block. */
+    memcpy(joints.at, taught, sizeof taught);
+    if (!pose()) return 1;
+    memcpy(goals.at, ends.at, sizeof ends.at);
+    memcpy(goals.at + RELAXED_IK_POSE_FLOATS, tolerances, sizeof tolerances);
+    if (!taken("set goals", ASK(relaxed_ik_set_goals(SHEET, READ(goals))))) return 1;
+    print_end("goal set");
+
+    memcpy(joints.at, start, sizeof start);
+    if (!taken("reset", ASK(relaxed_ik_reset(SHEET, READ(joints), WRITE(history), WRITE(ends))))) return 1;
+    print_end("reset");
+
+    if (!rounds()) return 1;
+    if (!pose()) return 1;
+    print_end("after the rounds");
+
+    if (!taken("manipulability", ASK(relaxed_ik_manipulability(SHEET, READ(joints), WRITE(value))))) return 1;
+    printf("manipulability %.6f\n", value.at[0]);
+
+    /* A block that the arm must not take: the number says why, the history stays, and the arm goes on from the last good block. */
+    good = joints.at[0];
+    joints.at[0] = 9.0;
+    memset(new_history.at, 0, sizeof new_history.at);
+    answer = ASK(relaxed_ik_update(SHEET, READ(history), READ(joints), WRITE(new_history)));
+    taken("an encoder says 9 rad", answer);
+    if (answer != RELAXED_IK_WRONG_JOINTS || new_history.at[0] != 0.0) return 1;
+    joints.at[0] = good;
+    if (!update()) return 1;
+    puts("back at the last good block");
+
+    printf("%lu calls\n", calls);
+#ifdef GUARDED
+    printf("%lu faults\n", faults);
+    if (faults != 0) return 1;
+#endif
+    return 0;
+}

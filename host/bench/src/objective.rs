@@ -1,0 +1,223 @@
+//! The losses, the objective and its slopes. As for the calls on arms, the
+//! proved side is lent everything in bytes and checks it at each call, while
+//! the reference's structures are made beforehand.
+
+use crate::arms::{first, Chains};
+use crate::{Draw, Rows};
+use proved::objective::{self, Given, Record};
+use proved::{losses, put_floats};
+use reference::groove::objective::{groove_loss, swamp_groove_loss, swamp_loss};
+use reference::groove::objective_master::ObjectiveMaster;
+use reference::groove::vars::RelaxedIKVars;
+use reference::{losses as published, record, refusals, sheet};
+use std::cell::RefCell;
+
+/// Few enough for the slowest row, which takes half a millisecond a call.
+const STATES: usize = 64;
+/// Of each kind.
+const TOLERANCES: [f64; 6] = [0.0, 0.1, 0.05, 0.0, 0.5, 3.2];
+
+pub fn rows(rows: &mut Rows, draw: &mut Draw) {
+    of_losses(rows, draw);
+    for (label, joints) in [
+        ("7 joints", &[7][..]),
+        ("16 joints", &[16]),
+        ("7 + 7 joints", &[7, 7]),
+    ] {
+        of_arms(rows, draw, label, joints);
+    }
+}
+
+fn of_losses(rows: &mut Rows, draw: &mut Draw) {
+    let distances = draw.inputs(|d| d.between(-1.0, 1.0));
+    rows.row(
+        "groove_loss",
+        &distances,
+        |x| losses::groove_loss(*x, 0.0, 0.1, 10.0),
+        |x| groove_loss(*x, 0.0, 2, 0.1, 10.0, 2),
+    );
+    rows.row(
+        "swamp_groove_loss",
+        &distances,
+        |x| losses::swamp_groove_loss(*x, 0.0, -0.5, 0.5, 1.0, 1.0, 0.01, 100.0),
+        |x| swamp_groove_loss(*x, 0.0, -0.5, 0.5, 1.0, 1.0, 0.01, 100.0, 20),
+    );
+    for power in [20, 30] {
+        rows.row(
+            &format!("swamp_loss, power {power}"),
+            &distances,
+            |x| losses::swamp_loss(*x, 0.02, 1.5, 60.0, 0.0001, power),
+            |x| swamp_loss(*x, 0.02, 1.5, 60.0, 0.0001, i32::from(power)),
+        );
+    }
+    let bounded = draw.inputs(|d| [d.between(-1.0, 1.0), d.between(-1.0, 4.0)]);
+    rows.row(
+        "loss_position",
+        &bounded,
+        |[x, bound]| losses::position(*x, *bound),
+        |[x, bound]| published::position(*x, *bound),
+    );
+    rows.row(
+        "loss_rotation",
+        &bounded,
+        |[x, bound]| losses::rotation(*x, *bound),
+        |[x, bound]| published::rotation(*x, *bound),
+    );
+    let limited = published::limited(-3.0, 3.0);
+    let joints = draw.inputs(|d| d.between(-3.2, 3.2));
+    rows.row(
+        "loss_limits",
+        &joints,
+        |x| losses::limits(*x, -3.0, 3.0),
+        |x| published::limits(*x, &limited),
+    );
+}
+
+/// Joints near their history and goals, in numbers and in bytes.
+struct State {
+    vars: RelaxedIKVars,
+    joints: Vec<f64>,
+    goals_bytes: Vec<u8>,
+    history_bytes: Vec<u8>,
+    joints_bytes: Vec<u8>,
+}
+
+impl State {
+    fn new(chains: &Chains, draw: &mut Draw) -> Self {
+        let mut near = |block: &[f64], size: f64| -> Vec<f64> {
+            let moved = block.iter().map(|v| v + draw.between(-size, size));
+            moved.collect()
+        };
+        let joints = near(&vec![0.0; chains.robot.num_dofs], 3.0);
+        let history: Vec<f64> = (0..4).flat_map(|_| near(&joints, 0.05)).collect();
+        let ends = sheet::ends(&chains.robot, &near(&joints, 0.1));
+        let goals: Vec<f64> = ends
+            .chunks_exact(7)
+            .flat_map(|end| [end, &TOLERANCES].concat())
+            .collect();
+        let mut state = Self {
+            vars: sheet::lent(chains.robot.clone(), &goals, &history),
+            joints,
+            goals_bytes: Vec::new(),
+            history_bytes: Vec::new(),
+            joints_bytes: Vec::new(),
+        };
+        put_floats(&goals, &mut state.goals_bytes);
+        put_floats(&history, &mut state.history_bytes);
+        put_floats(&state.joints, &mut state.joints_bytes);
+        state
+    }
+
+    fn given<'a>(&'a self, chains: &'a Chains) -> Given<'a> {
+        Given {
+            sheet: chains.sheet(),
+            goals: &self.goals_bytes,
+            history: &self.history_bytes,
+        }
+    }
+}
+
+/// The outputs of every call, as long as it needs them.
+struct Lists {
+    scratch: Vec<u8>,
+    value: Vec<u8>,
+    slopes: Vec<u8>,
+    record_joints: Vec<u8>,
+    record_links: Vec<u8>,
+    record_poses: Vec<u8>,
+}
+
+impl Lists {
+    fn new(joints: usize, walked: usize) -> Self {
+        Self {
+            scratch: vec![0; 8 * joints],
+            value: vec![0; 8],
+            slopes: vec![0; 8 * joints],
+            record_joints: vec![0; 2 * walked],
+            record_links: vec![0; 2 * walked],
+            record_poses: vec![0; 56 * walked],
+        }
+    }
+
+    /// The value and the last slope, so that the sums show both.
+    fn shown(&self, answer: u32) -> f64 {
+        assert_eq!(answer, refusals::ACCEPTED);
+        first(&self.value) + first(&self.slopes[self.slopes.len() - 8..])
+    }
+}
+
+fn shown((value, slopes): (f64, Vec<f64>)) -> f64 {
+    value + slopes[slopes.len() - 1]
+}
+
+fn of_arms(rows: &mut Rows, draw: &mut Draw, label: &str, joints: &[usize]) {
+    let chains = Chains::new(joints, draw);
+    let states: Vec<State> = (0..STATES).map(|_| State::new(&chains, draw)).collect();
+    let master = ObjectiveMaster::relaxed_ik(&chains.robot.chain_lengths);
+    let walked = record::record(&chains.robot, &states[0].joints).links.len();
+    let lists = RefCell::new(Lists::new(chains.robot.num_dofs, walked));
+    rows.row(
+        &format!("objective, {label}"),
+        &states,
+        |state| {
+            let value = &mut lists.borrow_mut().value;
+            let answer = objective::objective(state.given(&chains), &state.joints_bytes, value);
+            assert_eq!(answer, refusals::ACCEPTED);
+            first(value)
+        },
+        |state| master.call(&state.joints, &state.vars),
+    );
+    rows.row(
+        &format!("gradient, {label}"),
+        &states,
+        |state| {
+            let lists = &mut *lists.borrow_mut();
+            let answer = objective::gradient(
+                state.given(&chains),
+                &state.joints_bytes,
+                &mut lists.scratch,
+                &mut lists.value,
+                &mut lists.slopes,
+            );
+            lists.shown(answer)
+        },
+        |state| shown(master.gradient(&state.joints, &state.vars)),
+    );
+    rows.row(
+        &format!("gradient_finite_diff, {label}"),
+        &states,
+        |state| {
+            let lists = &mut *lists.borrow_mut();
+            let answer = objective::gradient_finite_diff(
+                state.given(&chains),
+                &state.joints_bytes,
+                &mut lists.scratch,
+                &mut lists.value,
+                &mut lists.slopes,
+            );
+            lists.shown(answer)
+        },
+        |state| shown(master.gradient_finite_diff(&state.joints, &state.vars)),
+    );
+    // The published gradient keeps no record; the ratio holds that too.
+    rows.row(
+        &format!("gradient_one_block, {label}"),
+        &states,
+        |state| {
+            let lists = &mut *lists.borrow_mut();
+            let answer = objective::gradient_one_block(
+                state.given(&chains),
+                &state.joints_bytes,
+                &mut lists.value,
+                &mut lists.slopes,
+                Record {
+                    joints: &mut lists.record_joints,
+                    links: &mut lists.record_links,
+                    poses: &mut lists.record_poses,
+                },
+            );
+            lists.shown(answer)
+        },
+        |state| shown(master.gradient(&state.joints, &state.vars)),
+    );
+}

@@ -1,0 +1,193 @@
+//! The losses.
+
+use crate::draw::{grid, Draw, CORNERS, SIGNS};
+use crate::run::{Kind, Run};
+use proved::losses;
+use reference::groove::objective::{groove_loss, swamp_groove_loss, swamp_loss};
+use reference::losses as published;
+
+pub fn kinds() -> Vec<Kind> {
+    let kind = Kind::new;
+    vec![
+        kind("groove_loss", "groove", groove),
+        kind("swamp_groove_loss", "swamp with a groove", swamp_groove),
+        kind("swamp_loss", "swamp, by the 20th or 30th power", swamp),
+        kind("loss_position", "a distance under its tolerance", |run| {
+            under_tolerance(run, losses::position, published::position)
+        }),
+        kind("loss_rotation", "an angle under its tolerance", |run| {
+            under_tolerance(run, losses::rotation, published::rotation)
+        }),
+        kind("loss_limits", "a joint between its limits", limits),
+    ]
+}
+
+/// Where the losses change, with the neighbours.
+#[allow(clippy::approx_constant)]
+const TOLERANCES: [f64; 2] = [0.01, 3.14159260];
+/// The limits of a free joint, and others beside them.
+const FREE: [f64; 4] = [999.0, -999.0, 998.0, -998.0];
+
+fn with_neighbours(values: &[f64]) -> Vec<f64> {
+    let around = |&v: &f64| [v, v.next_up(), v.next_down()];
+    values.iter().flat_map(around).collect()
+}
+
+/// An argument as the objectives give it, or now and then any float.
+fn or_any(draw: &mut Draw, own: f64) -> f64 {
+    match draw.word() % 16 {
+        0 => draw.any(),
+        1 => draw.pick(&CORNERS),
+        _ => own,
+    }
+}
+
+/// A distance, an angle or a scaled joint.
+fn distance(draw: &mut Draw) -> f64 {
+    match draw.word() % 8 {
+        0 => draw.small(60),
+        1 => draw.pick(&[0.0, -0.0, 1.0]),
+        2 => draw.between(-300.0, 300.0),
+        3 => draw.edge(),
+        4 => draw.between(-10.0, 10.0),
+        _ => draw.between(-1.0, 1.0),
+    }
+}
+
+fn groove(run: &mut Run) {
+    run.function(
+        grid(&CORNERS),
+        |draw| {
+            let centre = draw.pick(&[0.0, 1.0]);
+            let (width, factor) = (draw.pick(&[0.1, 0.5]), draw.pick(&[10.0, 0.1]));
+            let x = distance(draw);
+            [x, centre, width, factor].map(|own| or_any(draw, own))
+        },
+        |[x, t, c, f]| [losses::groove_loss(x, t, c, f)],
+        |[x, t, c, f]| [groove_loss(x, t, 2, c, f, 2)],
+    );
+}
+
+/// Bounds, and x inside, at an end or beyond; sometimes the bounds are equal,
+/// and x too.
+fn bounded(draw: &mut Draw) -> [f64; 3] {
+    let [l, u] = match draw.word() % 8 {
+        0 => [0.02, 1.5],
+        1 => {
+            let at = draw.any();
+            [at, at]
+        }
+        2 => [draw.any(), draw.any()],
+        3 => [draw.between(-100.0, 100.0), draw.between(-100.0, 100.0)],
+        4 => {
+            let lower = draw.between(-100.0, 100.0);
+            [lower, lower + 0.001]
+        }
+        _ => {
+            let bound = bound(draw);
+            [-bound, bound]
+        }
+    };
+    let x = match draw.word() % 8 {
+        0 => draw.pick(&[l, u]),
+        1 => draw.any(),
+        2 | 3 => distance(draw),
+        4 => (l + u) / 2.0,
+        _ => l + (u - l) * draw.between(-0.1, 1.1),
+    };
+    [x, l, u]
+}
+
+fn bound(draw: &mut Draw) -> f64 {
+    match draw.word() % 8 {
+        0 => {
+            let edge = draw.pick(&TOLERANCES);
+            draw.pick(&[edge, edge.next_up(), edge.next_down()])
+        }
+        1 => draw.any(),
+        2 => draw.between(-100.0, 100.0),
+        3 => draw.between(0.0, 0.02),
+        4 => TOLERANCES[1] + draw.between(-1e-4, 1e-4),
+        _ => draw.between(0.01, 3.2),
+    }
+}
+
+fn swamp_groove(run: &mut Run) {
+    run.function(
+        grid(&SIGNS),
+        |draw| {
+            let [x, l, u] = bounded(draw);
+            let width = match draw.word() % 2 {
+                0 => u * 2.0,
+                _ => draw.between(0.001, 10.0),
+            };
+            [x, 0.0, l, u, width, 1.0, 0.01, 100.0].map(|own| or_any(draw, own))
+        },
+        |[x, g, l, u, c, f1, f2, f3]| [losses::swamp_groove_loss(x, g, l, u, c, f1, f2, f3)],
+        |[x, g, l, u, c, f1, f2, f3]| [swamp_groove_loss(x, g, l, u, c, f1, f2, f3, 20)],
+    );
+}
+
+/// The power is carried as a float, to be shown with the other arguments.
+fn swamp(run: &mut Run) {
+    let few = [0.0, -0.0, 1.0, -1.0, 1.5, f64::INFINITY, f64::NAN, 5e-324];
+    let powers = [20.0, 30.0, 0.0, 65535.0];
+    let edges =
+        grid::<5>(&few).flat_map(|[x, l, u, f1, f2]| powers.map(|power| [x, l, u, f1, f2, power]));
+    run.function(
+        edges,
+        |draw| {
+            let [x, l, u] = bounded(draw);
+            let factors = draw.pick(&[[100.0, 0.1], [60.0, 0.0001], [10.0, 10.0]]);
+            let [x, l, u, f1, f2] = [x, l, u, factors[0], factors[1]].map(|own| or_any(draw, own));
+            let power = match draw.word() % 16 {
+                0 => f64::from(draw.word() as u16),
+                _ => draw.pick(&[20.0, 30.0]),
+            };
+            [x, l, u, f1, f2, power]
+        },
+        |[x, l, u, f1, f2, power]| [losses::swamp_loss(x, l, u, f1, f2, power as u16)],
+        |[x, l, u, f1, f2, power]| {
+            let power = if power == 30.0 { 30 } else { 20 };
+            [swamp_loss(x, l, u, f1, f2, power)]
+        },
+    );
+}
+
+fn under_tolerance(run: &mut Run, proved: fn(f64, f64) -> f64, reference: fn(f64, f64) -> f64) {
+    let mut values = run.draw.edges();
+    values.extend(with_neighbours(&TOLERANCES));
+    run.function(
+        grid(&values),
+        |draw| {
+            let bound = bound(draw);
+            let x = match draw.word() % 4 {
+                0 => distance(draw),
+                1 => bound * draw.between(-1.1, 1.1),
+                _ => draw.between(-3.2, 3.2),
+            };
+            [or_any(draw, x), bound]
+        },
+        |[x, bound]| [proved(x, bound)],
+        |[x, bound]| [reference(x, bound)],
+    );
+}
+
+fn limits(run: &mut Run) {
+    let mut values = with_neighbours(&FREE);
+    values.extend(CORNERS);
+    values.extend([0.001, 8.0, -8.0, 100.0, -100.0]);
+    run.function(
+        grid(&values),
+        |draw| match draw.word() % 8 {
+            0 => {
+                let x = distance(draw);
+                [x, draw.pick(&FREE), draw.pick(&FREE)]
+            }
+            1 => draw.anys(),
+            _ => bounded(draw),
+        },
+        |[x, l, u]| [losses::limits(x, l, u)],
+        |[x, l, u]| [published::limits(x, &published::limited(l, u))],
+    );
+}

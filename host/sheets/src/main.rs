@@ -1,0 +1,286 @@
+//! Writes the sample hole sheets. The figures filed in the good ones are the
+//! reference run's: this program knows neither the proved library nor `sonde`,
+//! so a sheet that agrees is one more comparison of the two.
+
+#![forbid(unsafe_code)]
+
+mod samples;
+
+use reference::groove::objective_master::ObjectiveMaster;
+use reference::{refusals, sheet};
+use samples::Sample;
+use std::fmt::Write as _;
+use std::path::Path;
+use std::process::ExitCode;
+use std::{env, fs};
+
+const USAGE: &str = "\
+sheets DIR [--check]
+
+  DIR      the folder for good/ and bad/
+  --check  writes nothing, and says whether the files are as they would be
+           written; the last line is 'N passed, M failed'";
+
+const KINDS: [&str; 4] = ["fixed", "revolute", "continuous", "prismatic"];
+const AXES: [&str; 7] = ["none", "x", "y", "z", "-x", "-y", "-z"];
+const PARTS: [&str; 7] = ["x", "y", "z", "w", "i", "j", "k"];
+
+/// Decimals that come back as the same bits.
+fn row(numbers: &[f64]) -> String {
+    let words: Vec<String> = numbers.iter().map(f64::to_string).collect();
+    words.join(" ")
+}
+
+fn lined(out: &mut String, word: &str, numbers: &[f64]) {
+    let _ = writeln!(out, "{word} {}", row(numbers));
+}
+
+/// Azimuth and inclination in degrees of the frame's z axis, azimuth clockwise
+/// from +y, inclination from straight down. With the standard library's
+/// functions, and so only to a few decimals.
+fn direction(q: &[f64]) -> (Option<f64>, f64) {
+    let (w, i, j, k) = (q[0], q[1], q[2], q[3]);
+    let east = 2.0 * (i * k + w * j);
+    let north = 2.0 * (j * k - w * i);
+    let up = 1.0 - 2.0 * (i * i + j * j);
+    let horizontal = east.hypot(north);
+    let azimuth = (horizontal > 1e-9).then(|| east.atan2(north).to_degrees().rem_euclid(360.0));
+    (azimuth, horizontal.atan2(-up).to_degrees())
+}
+
+struct Lists {
+    sizes: Vec<u16>,
+    codes: Vec<u16>,
+    floats: Vec<f64>,
+    limits: Vec<f64>,
+}
+
+fn lists(sample: &Sample) -> Lists {
+    let mut sizes = vec![sample.chains.len() as u16];
+    sizes.extend(sample.chains.iter().map(|chain| chain.links.len() as u16));
+    let links = || sample.chains.iter().flat_map(|chain| &chain.links);
+    Lists {
+        sizes,
+        codes: links().map(|link| link.code).collect(),
+        floats: links().flat_map(|link| link.floats).collect(),
+        limits: links().filter_map(|link| link.limits).flatten().collect(),
+    }
+}
+
+/// Goals where the arm would be at other joints.
+fn goals(sample: &Sample, lists: &Lists) -> Vec<f64> {
+    let Some((joints, tolerances)) = &sample.goal else {
+        return Vec::new();
+    };
+    let robot = sheet::robot(&lists.sizes, &lists.codes, &lists.floats, &lists.limits);
+    let ends = sheet::ends(&robot, joints);
+    let goals = ends.chunks_exact(7);
+    goals
+        .flat_map(|end| [end, &tolerances[..]].concat())
+        .collect()
+}
+
+/// Whether the scope paper takes the sheet, by the reference's own refusals.
+fn taken(lists: &Lists, goals: &[f64], history: &[f64], joints: &[f64]) -> bool {
+    let list = refusals::List::of;
+    let sheet = refusals::Sheet {
+        sizes: refusals::List::of(&lists.sizes),
+        codes: refusals::List::of(&lists.codes),
+        floats: list(&lists.floats),
+        limits: list(&lists.limits),
+    };
+    let room = refusals::Room::of(1);
+    if goals.is_empty() {
+        return refusals::manipulability(&sheet, list(joints), room) == refusals::ACCEPTED;
+    }
+    let given = refusals::Given {
+        sheet,
+        goals: list(goals),
+        history: list(history),
+    };
+    refusals::objective(&given, list(joints), room) == refusals::ACCEPTED
+}
+
+/// The text of a good sheet.
+fn good(sample: &Sample) -> String {
+    let lists = lists(sample);
+    let goals = goals(sample, &lists);
+    let joints = &sample.joints;
+    let history = match &sample.history {
+        Some(blocks) => blocks.concat(),
+        None => joints.repeat(4),
+    };
+    assert!(
+        taken(&lists, &goals, &history, joints),
+        "{}: the sample is refused",
+        sample.file
+    );
+    let mut out = String::new();
+    for line in sample.about.lines() {
+        let _ = writeln!(out, "# {line}");
+    }
+    let _ = writeln!(out, "sonde 1\nhole {}", sample.hole);
+    for chain in &sample.chains {
+        let _ = writeln!(out, "\nchain {}", chain.name);
+        for link in &chain.links {
+            let kind = KINDS[usize::from(link.code / 10)];
+            let axis = match link.code {
+                0 => String::new(),
+                code => format!(" {}", AXES[usize::from(code % 10)]),
+            };
+            let (displacement, offset) = link.floats.split_at(3);
+            let front = format!("{kind}{axis}");
+            let _ = writeln!(
+                out,
+                "link {front:<13} {}   {}",
+                row(displacement),
+                row(offset)
+            );
+            match link.limits {
+                Some([-999.0, 999.0]) => out.push_str("limits free\n"),
+                Some(pair) => lined(&mut out, "limits", &pair),
+                None => {}
+            }
+        }
+    }
+    out.push('\n');
+    lined(&mut out, "joints", joints);
+    for block in sample.history.iter().flatten() {
+        lined(&mut out, "history", block);
+    }
+    for goal in goals.chunks_exact(13) {
+        lined(&mut out, "goal", goal);
+    }
+    if sample.filed {
+        out.push('\n');
+        file(&mut out, sample, &lists, &goals, &history);
+    }
+    out
+}
+
+/// The reference run's figures.
+fn file(out: &mut String, sample: &Sample, lists: &Lists, goals: &[f64], history: &[f64]) {
+    let robot = sheet::robot(&lists.sizes, &lists.codes, &lists.floats, &lists.limits);
+    let mut exact = |name: &str, v: f64| {
+        let _ = writeln!(out, "filed {name} {v} {:016x}", v.to_bits());
+    };
+    let ends = sheet::ends(&robot, &sample.joints);
+    for (chain, end) in sample.chains.iter().zip(ends.chunks_exact(7)) {
+        for (part, v) in PARTS.iter().zip(end) {
+            exact(&format!("{}.{part}", chain.name), *v);
+        }
+    }
+    exact(
+        "manipulability",
+        robot.get_manipulability_immutable(&sample.joints),
+    );
+    if !goals.is_empty() {
+        let master = ObjectiveMaster::relaxed_ik(&robot.chain_lengths);
+        let vars = sheet::lent(robot, goals, history);
+        let (value, slopes) = master.gradient(&sample.joints, &vars);
+        exact("objective", value);
+        for (joint, slope) in slopes.iter().enumerate() {
+            exact(&format!("slope.{joint}"), *slope);
+        }
+    }
+    for (chain, end) in sample.chains.iter().zip(ends.chunks_exact(7)) {
+        let (azimuth, inclination) = direction(&end[3..]);
+        let azimuth = azimuth.map_or("none".to_string(), |v| format!("{v:.4}"));
+        let name = chain.name;
+        let _ = writeln!(out, "filed {name}.azimuth {azimuth}");
+        let _ = writeln!(out, "filed {name}.inclination {inclination:.4}");
+    }
+}
+
+/// Every file by its path below DIR.
+fn files() -> Vec<(String, String)> {
+    let goods = samples::good();
+    let mut files = Vec::new();
+    for sample in &goods {
+        files.push((format!("good/{}.sheet", sample.file), good(sample)));
+    }
+    let base = good(&goods[0]);
+    for bad in samples::bad() {
+        files.push((format!("bad/{}.sheet", bad.file), bad.text(&base)));
+    }
+    files
+}
+
+fn write(folder: &Path) -> Result<String, String> {
+    let files = files();
+    for (name, text) in &files {
+        let path = folder.join(name);
+        let told = |error| format!("{}: {error}", path.display());
+        if let Some(parent) = path.parent() {
+            fs::create_dir_all(parent).map_err(told)?;
+        }
+        fs::write(&path, text).map_err(told)?;
+    }
+    Ok(format!("{} sheets written", files.len()))
+}
+
+fn check(folder: &Path) -> Result<String, String> {
+    let (mut passed, mut failed) = (0, 0);
+    for (name, text) in files() {
+        if fs::read_to_string(folder.join(&name)).is_ok_and(|found| found == text) {
+            passed += 1;
+        } else {
+            println!("{name}: not as it would be written");
+            failed += 1;
+        }
+    }
+    let line = format!("{passed} passed, {failed} failed");
+    if failed == 0 {
+        Ok(line)
+    } else {
+        Err(line)
+    }
+}
+
+fn main() -> ExitCode {
+    let arguments: Vec<String> = env::args().skip(1).collect();
+    let words: Vec<&str> = arguments.iter().map(String::as_str).collect();
+    let done = match words[..] {
+        [folder] if !folder.starts_with('-') => write(Path::new(folder)),
+        [folder, "--check"] | ["--check", folder] => check(Path::new(folder)),
+        _ => {
+            eprintln!("{USAGE}");
+            return ExitCode::from(2);
+        }
+    };
+    match done {
+        Ok(line) => {
+            println!("{line}");
+            ExitCode::SUCCESS
+        }
+        Err(line) => {
+            println!("{line}");
+            ExitCode::FAILURE
+        }
+    }
+}
+
+#[cfg(test)]
+mod tests {
+    use super::*;
+
+    #[test]
+    fn every_bad_sheet_has_its_fault() {
+        let base = good(&samples::good()[0]);
+        for bad in samples::bad() {
+            assert_ne!(bad.text(&base), base, "{}", bad.file);
+        }
+    }
+
+    #[test]
+    fn the_samples_in_the_repository_are_up_to_date() {
+        let folder = Path::new(env!("CARGO_MANIFEST_DIR")).join("../../examples/sheets");
+        for (name, text) in files() {
+            let found = fs::read_to_string(folder.join(&name)).unwrap_or_default();
+            assert!(
+                found == text,
+                "{name}: run `sheets examples/sheets` at the root"
+            );
+        }
+    }
+}

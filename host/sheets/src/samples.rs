@@ -1,0 +1,360 @@
+//! The sample arms, and the ways in which the bad sheets are bad.
+
+pub struct Link {
+    pub code: u16,
+    pub floats: [f64; 7],
+    pub limits: Option<[f64; 2]>,
+}
+
+pub struct Chain {
+    pub name: &'static str,
+    pub links: Vec<Link>,
+}
+
+pub struct Sample {
+    pub file: &'static str,
+    pub about: &'static str,
+    pub hole: &'static str,
+    pub chains: Vec<Chain>,
+    pub joints: Vec<f64>,
+    pub history: Option<[Vec<f64>; 4]>,
+    /// The joints whose end poses are the goals, and every chain's tolerances.
+    pub goal: Option<(Vec<f64>, [f64; 6])>,
+    pub filed: bool,
+}
+
+const STRAIGHT: [f64; 4] = [1.0, 0.0, 0.0, 0.0];
+const FREE: [f64; 2] = [-999.0, 999.0];
+
+fn link(code: u16, displacement: [f64; 3], offset: [f64; 4], limits: [f64; 2]) -> Link {
+    let ([x, y, z], [w, i, j, k]) = (displacement, offset);
+    Link {
+        code,
+        floats: [x, y, z, w, i, j, k],
+        limits: (code != 0).then_some(limits),
+    }
+}
+
+/// A mast, a slew ring, a boom and a wrist that points down the hole.
+fn rig() -> Vec<Chain> {
+    let wide = [-2.5, 2.5];
+    let links = vec![
+        link(0, [0.0, 0.0, 0.6], STRAIGHT, wide),
+        link(23, [0.0, 0.0, 0.2], STRAIGHT, FREE),
+        link(12, [0.1, 0.0, 0.2], STRAIGHT, [-1.2, 1.4]),
+        link(12, [0.9, 0.0, 0.0], STRAIGHT, wide),
+        link(11, [0.7, 0.0, 0.0], STRAIGHT, wide),
+        link(0, [0.1, 0.0, 0.0], [0.8, 0.0, 0.6, 0.0], wide),
+        link(12, [0.0, 0.0, 0.15], STRAIGHT, wide),
+        link(11, [0.0, 0.0, 0.1], STRAIGHT, wide),
+        link(13, [0.0, 0.0, 0.3], STRAIGHT, [-3.1, 3.1]),
+    ];
+    vec![Chain {
+        name: "boom",
+        links,
+    }]
+}
+
+/// Slides, turned offsets and an axis of none.
+fn slides() -> Vec<Chain> {
+    let quarter = std::f64::consts::FRAC_1_SQRT_2;
+    let links = vec![
+        link(33, [0.0, 0.0, 0.8], STRAIGHT, [0.0, 1.5]),
+        link(13, [0.0, 0.0, 0.3], [0.96, 0.0, 0.0, 0.28], [-3.0, 3.0]),
+        link(31, [0.4, 0.1, 0.0], STRAIGHT, [-0.5, 0.5]),
+        link(
+            12,
+            [0.5, 0.0, 0.0],
+            [quarter, 0.0, quarter, 0.0],
+            [-2.0, 2.0],
+        ),
+        link(10, [0.0, 0.0, 0.2], STRAIGHT, FREE),
+        link(15, [0.0, 0.1, 0.4], [0.8, 0.6, 0.0, 0.0], [-2.0, 2.0]),
+        link(26, [0.0, 0.0, 0.2], STRAIGHT, FREE),
+        link(14, [0.0, 0.0, 0.25], STRAIGHT, [-2.0, 2.0]),
+    ];
+    vec![Chain {
+        name: "mast",
+        links,
+    }]
+}
+
+fn two_arms() -> Vec<Chain> {
+    let wide = [-2.8, 2.8];
+    let left = [13, 12, 12, 11, 12, 13].map(|code| link(code, [0.2, 0.1, 0.3], STRAIGHT, wide));
+    let right = [13, 12, 0, 12].map(|code| link(code, [0.3, -0.4, 0.1], STRAIGHT, wide));
+    vec![
+        Chain {
+            name: "left",
+            links: left.into(),
+        },
+        Chain {
+            name: "right",
+            links: right.into(),
+        },
+    ]
+}
+
+/// As much as a sheet can hold: four chains of 16 links, 16 joints.
+fn largest() -> Vec<Chain> {
+    let chain = |(name, turn): (&'static str, f64)| {
+        let links = (0..16).map(|at| {
+            let (code, offset) = match at {
+                0 => (13, [turn.cos(), 0.0, 0.0, turn.sin()]),
+                4 => (12, STRAIGHT),
+                8 => (11, STRAIGHT),
+                12 => (22, STRAIGHT),
+                _ => (0, STRAIGHT),
+            };
+            link(code, [0.15, 0.0, 0.05], offset, [-3.0, 3.0])
+        });
+        Chain {
+            name,
+            links: links.collect(),
+        }
+    };
+    let turns = [("north", 0.8), ("east", 0.0), ("south", 2.4), ("west", 1.6)];
+    turns.into_iter().map(chain).collect()
+}
+
+pub fn good() -> Vec<Sample> {
+    let rig_joints = vec![0.7, -0.35, 1.1, 0.05, 0.95, 0.08, 0.1];
+    let beside = |joints: &[f64], by: f64| -> Vec<f64> { joints.iter().map(|v| v + by).collect() };
+    let slid = vec![0.4, 0.9, 0.1, 0.35, 0.2, -0.6, 0.3, 0.45];
+    let both = vec![0.2, 0.5, -0.4, 0.3, 0.6, -0.1, -0.5, 0.7, 0.4];
+    let many = [0.1, 0.4, 0.2, 0.5].repeat(4);
+    vec![
+        Sample {
+            file: "collar_12",
+            about: "A boom over the collar, at rest, with a goal that it has all but reached.",
+            hole: "Collar 12, station north",
+            chains: rig(),
+            joints: rig_joints.clone(),
+            history: None,
+            goal: Some((beside(&rig_joints, 0.001), [0.0, 0.0, 0.05, 0.1, 0.1, 3.2])),
+            filed: true,
+        },
+        Sample {
+            file: "sliding_mast",
+            about: "Slides, turned offsets and a joint without axis, in motion: the four blocks\n\
+                    of the history, the current one first, differ.",
+            hole: "Collar 15, sliding mast",
+            chains: slides(),
+            joints: slid.clone(),
+            history: Some([-0.01, -0.02, -0.04, -0.05].map(|by| beside(&slid, by))),
+            goal: Some((beside(&slid, 0.004), [0.1, 0.2, 0.0, 0.0, 0.5, 3.2])),
+            filed: true,
+        },
+        Sample {
+            file: "two_arms",
+            about: "Two chains, of six joints and of three.",
+            hole: "Collar 3, two arms",
+            chains: two_arms(),
+            joints: both.clone(),
+            history: None,
+            goal: Some((beside(&both, -0.05), [0.3, 0.1, 0.2, 0.1, 0.1, 0.1])),
+            filed: true,
+        },
+        Sample {
+            file: "largest",
+            about: "As much as a sheet can hold.",
+            hole: "Test stand, four arms",
+            chains: largest(),
+            joints: many.clone(),
+            history: None,
+            goal: Some((beside(&many, 0.04), [0.0; 6])),
+            filed: true,
+        },
+        Sample {
+            file: "at_rest",
+            about: "Two links up and no goals. The axis is vertical: there is no azimuth.",
+            hole: "Test stand, straight up",
+            chains: vec![Chain {
+                name: "arm",
+                links: [13, 12]
+                    .map(|code| link(code, [0.0, 0.0, 1.0], STRAIGHT, [-3.0, 3.0]))
+                    .into(),
+            }],
+            joints: vec![0.0, 0.0],
+            history: None,
+            goal: None,
+            filed: true,
+        },
+        Sample {
+            file: "unfiled",
+            about: "Nothing is filed: the sheet is worked out and compared with nothing.",
+            hole: "Collar 13",
+            chains: rig(),
+            joints: beside(&rig_joints, 0.2),
+            history: None,
+            goal: Some((beside(&rig_joints, 0.25), [0.0, 0.0, 0.05, 0.1, 0.1, 3.2])),
+            filed: false,
+        },
+    ]
+}
+
+/// The first good sheet with one line changed.
+pub struct Bad {
+    pub file: &'static str,
+    /// The exit status that `sonde` is to have.
+    pub status: u8,
+    /// The start of the line that is changed.
+    line: &'static str,
+    change: Change,
+}
+
+enum Change {
+    /// Words of that line, and what stands in their place.
+    Words(&'static str, &'static str),
+    /// The line as often as this.
+    Times(usize),
+    Away,
+    /// This line before it.
+    Before(&'static str),
+    /// The last digit of the bits, which is then another one, and the decimal with it.
+    LastBit,
+}
+
+/// One line at fault is told by its number; the first line of the file says
+/// which status and which line are expected.
+impl Bad {
+    pub fn text(&self, base: &str) -> String {
+        // The first line is a comment and gives way to another.
+        let mut lines: Vec<String> = base.lines().map(str::to_string).collect();
+        let at = lines.iter().position(|line| line.starts_with(self.line));
+        let at = at.expect("the line is there");
+        // What is told is the line changed, but for a chain with too few or too
+        // many links or joints and for a line that is gone.
+        let mut told = Some(at + 1);
+        let chain = lines.iter().position(|line| line.starts_with("chain "));
+        match &self.change {
+            Change::Words(old, new) => {
+                assert!(lines[at].contains(old), "{}: {old}", self.file);
+                lines[at] = lines[at].replacen(old, new, 1);
+            }
+            Change::Times(count) => {
+                let line = lines[at].clone();
+                lines.splice(at..=at, vec![line; *count]);
+                told = chain.map(|chain| chain + 1);
+            }
+            Change::Away => {
+                lines.remove(at);
+                let last = lines.iter().rposition(|line| line.starts_with("limits "));
+                told = last.map(|last| last + 1);
+            }
+            Change::Before(line) => lines.insert(at, line.to_string()),
+            Change::LastBit => {
+                let words: Vec<&str> = lines[at].split(' ').collect();
+                let bits = u64::from_str_radix(words[3], 16).expect("bits");
+                let v = f64::from_bits(bits ^ 1);
+                lines[at] = format!("filed {} {v} {:016x}", words[1], v.to_bits());
+            }
+        }
+        let place = told.map_or("no line".to_string(), |line| format!("line {line}"));
+        lines[0] = format!("# expected: status {}, {place}", self.status);
+        lines.join("\n") + "\n"
+    }
+}
+
+pub fn bad() -> Vec<Bad> {
+    let words = |file, status, line, old, new| Bad {
+        file,
+        status,
+        line,
+        change: Change::Words(old, new),
+    };
+    vec![
+        Bad {
+            file: "refused_1_too_many_links",
+            status: 11,
+            line: "link fixed",
+            change: Change::Times(9),
+        },
+        words(
+            "refused_2_six_numbers",
+            12,
+            "link continuous z",
+            "0 0 0.2",
+            "0 0.2",
+        ),
+        words(
+            "refused_3_code_37",
+            13,
+            "link revolute x",
+            "revolute x",
+            "code 37",
+        ),
+        Bad {
+            file: "refused_4_one_joint",
+            status: 14,
+            line: "link revolute z",
+            change: Change::Before("chain second"),
+        },
+        words(
+            "refused_5_limits_too_near",
+            15,
+            "limits -1.2 1.4",
+            "-1.2 1.4",
+            "1.3995 1.4",
+        ),
+        Bad {
+            file: "refused_5_limits_missing",
+            status: 15,
+            line: "limits -1.2 1.4",
+            change: Change::Away,
+        },
+        words(
+            "refused_6_offset",
+            16,
+            "link fixed         0.1",
+            "0.8 0 0.6",
+            "0.8 0 0.61",
+        ),
+        words(
+            "refused_6_displacement",
+            16,
+            "link revolute y",
+            "0.1 0 0.2",
+            "0.1 0 20",
+        ),
+        words("refused_7_joint", 17, "joints", "joints 0.7", "joints 8.7"),
+        words(
+            "refused_7_not_a_number",
+            17,
+            "joints",
+            "joints 0.7",
+            "joints nan",
+        ),
+        words("refused_8_tolerance", 18, "goal", " 3.2", " 320"),
+        words("text_not_a_number", 3, "limits -1.2 1.4", "-1.2", "-1,2"),
+        words("text_unknown_word", 3, "joints", "joints", "angles"),
+        words(
+            "text_unknown_kind",
+            3,
+            "link revolute x",
+            "revolute",
+            "spherical",
+        ),
+        words("text_other_version", 3, "sonde", "1", "2"),
+        words(
+            "text_bits_of_another",
+            3,
+            "filed boom.x",
+            "filed boom.x ",
+            "filed boom.x 1",
+        ),
+        words("text_filed_of_no_chain", 3, "filed boom.y", "boom", "mast"),
+        Bad {
+            file: "differs_in_the_last_bit",
+            status: 1,
+            line: "filed boom.w",
+            change: Change::LastBit,
+        },
+        Bad {
+            file: "differs_in_the_azimuth",
+            status: 1,
+            line: "filed boom.azimuth",
+            change: Change::Words("azimuth ", "azimuth 1"),
+        },
+    ]
+}

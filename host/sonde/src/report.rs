@@ -1,0 +1,343 @@
+//! What is said of a sheet: in words, or as JSON for programs.
+
+use crate::text::{File, PARTS};
+use crate::work::{part_of, with_bits, Fault, Verdict, Work, HAS_OBJECTIVE};
+use std::fmt::Write as _;
+
+/// Exit statuses. A refused sheet ends with `REFUSED` plus its number.
+pub const GOOD: u8 = 0;
+pub const DIFFERS: u8 = 1;
+pub const UNUSABLE: u8 = 2;
+pub const TEXT_FAULT: u8 = 3;
+pub const REFUSED: u8 = 10;
+
+/// A sheet, whatever became of it.
+pub struct Outcome {
+    pub path: String,
+    pub result: Result<(File, Work), Problem>,
+}
+
+pub enum Problem {
+    Unreadable(String),
+    Fault(Fault),
+}
+
+impl Outcome {
+    pub fn status(&self) -> u8 {
+        match &self.result {
+            Ok((_, work)) if work.differing() > 0 => DIFFERS,
+            Ok(_) => GOOD,
+            Err(Problem::Unreadable(_)) => UNUSABLE,
+            Err(Problem::Fault(Fault::Text(_))) => TEXT_FAULT,
+            // The numbers are 1 to 9.
+            Err(Problem::Fault(Fault::Refused { refusal, .. })) => REFUSED + refusal.number() as u8,
+        }
+    }
+
+    /// A few words for the table and for programs.
+    pub fn word(&self) -> &'static str {
+        match &self.result {
+            Ok((_, work)) if work.differing() > 0 => "differs",
+            Ok((_, work)) if work.checks.is_empty() => "calculated",
+            Ok((_, work)) if work.count(|v| *v == Verdict::NotChecked) > 0 => "agrees in part",
+            Ok(_) => "agrees",
+            Err(Problem::Unreadable(_)) => "unreadable",
+            Err(Problem::Fault(Fault::Text(_))) => "text fault",
+            Err(Problem::Fault(Fault::Refused { .. })) => "refused",
+        }
+    }
+
+    /// The line of the file that is at fault, or that has the first figure to
+    /// differ.
+    pub fn line(&self) -> Option<usize> {
+        match &self.result {
+            Ok((_, work)) => work.first_differing(),
+            Err(Problem::Fault(Fault::Text(fault))) => fault.line,
+            Err(Problem::Fault(Fault::Refused { line, .. })) => *line,
+            Err(Problem::Unreadable(_)) => None,
+        }
+    }
+
+    /// What is wrong, on one line.
+    pub fn note(&self) -> String {
+        match &self.result {
+            Ok((_, work)) if work.differing() > 0 => {
+                let names = work
+                    .checks
+                    .iter()
+                    .filter(|check| matches!(check.verdict, Verdict::Differs(_)));
+                let names: Vec<&str> = names.map(|check| check.filed.name.as_str()).collect();
+                names.join(", ")
+            }
+            Ok(_) => String::new(),
+            Err(Problem::Unreadable(words)) => words.clone(),
+            Err(Problem::Fault(Fault::Text(fault))) => fault.to_string(),
+            Err(Problem::Fault(Fault::Refused {
+                refusal,
+                line,
+                words,
+            })) => {
+                let place = line.map_or(String::new(), |line| format!("line {line}: "));
+                format!("{place}refused, {}: {words}", refusal.number())
+            }
+        }
+    }
+
+    pub fn text(&self) -> String {
+        let (file, work) = match &self.result {
+            Ok(done) => done,
+            Err(problem) => {
+                let mut out = format!("{}: {}\n", self.path, self.note());
+                if let Problem::Fault(Fault::Refused { refusal, .. }) = problem {
+                    let _ = writeln!(out, "  taken are {}", refusal.words());
+                }
+                return out;
+            }
+        };
+        let mut out = String::new();
+        let hole = if file.hole.is_empty() {
+            "(no name)"
+        } else {
+            &file.hole
+        };
+        let _ = writeln!(out, "{hole}, from {}", self.path);
+        let line = |out: &mut String, name: &str, v: f64| {
+            let _ = writeln!(out, "  {name:<16} {v:<24} {:016x}", v.to_bits());
+        };
+        for chain in &work.chains {
+            let (links, joints) = (chain.codes.len(), chain.joints);
+            let _ = writeln!(
+                out,
+                "\nchain {}: {links} links, {joints} joints; its end",
+                chain.name
+            );
+            for (part, name) in PARTS.iter().enumerate() {
+                line(&mut out, name, part_of(&chain.end, part));
+            }
+            let azimuth = match chain.direction.azimuth {
+                Some(degrees) => format!("{degrees:.6} degrees clockwise from north"),
+                None => "none, the axis is vertical".to_string(),
+            };
+            let _ = writeln!(out, "  {:<16} {azimuth}", "azimuth");
+            let inclination = chain.direction.inclination;
+            let _ = writeln!(
+                out,
+                "  {:<16} {inclination:.6} degrees from straight down",
+                "inclination"
+            );
+        }
+        let _ = writeln!(out, "\nthe sheet as a whole");
+        line(&mut out, "manipulability", work.manipulability);
+        match &work.objective {
+            Some(objective) => {
+                line(&mut out, "objective", objective.value);
+                for (joint, slope) in objective.slopes.iter().enumerate() {
+                    line(&mut out, &format!("slope {joint}"), *slope);
+                }
+            }
+            None if file.goals.is_empty() => {
+                let _ = writeln!(out, "  no goals, so no objective");
+            }
+            None => {
+                let _ = writeln!(out, "  the objective is not in this build");
+            }
+        }
+        let _ = writeln!(
+            out,
+            "\nPoses{} are the proved library's. Azimuth and inclination are\n\
+             those of the end frame's z axis, worked out of the proved rotation with the\n\
+             standard library's hypot and atan2.",
+            if HAS_OBJECTIVE {
+                ", manipulability, objective and slopes"
+            } else {
+                " and manipulability"
+            }
+        );
+        out.push('\n');
+        out.push_str(&filed_text(work));
+        out
+    }
+
+    pub fn json(&self) -> String {
+        let mut fields = vec![
+            ("sheet", string(&self.path)),
+            ("outcome", string(self.word())),
+            ("status", self.status().to_string()),
+            ("line", optional(self.line().map(|line| line.to_string()))),
+        ];
+        match &self.result {
+            Ok((file, work)) => fields.extend(work_json(file, work)),
+            Err(problem) => fields.push(("fault", problem_json(problem))),
+        }
+        object(&fields)
+    }
+}
+
+fn filed_text(work: &Work) -> String {
+    let mut out = String::new();
+    if work.checks.is_empty() {
+        return "no figures are filed\n".to_string();
+    }
+    for check in &work.checks {
+        if let Verdict::Differs(came) = &check.verdict {
+            let filed = figure(check);
+            let (line, name) = (check.filed.line, &check.filed.name);
+            let _ = writeln!(
+                out,
+                "DIFFERS, line {line}: {name}\n  filed    {filed}\n  came out {came}"
+            );
+        }
+    }
+    let agree = work.count(|verdict| *verdict == Verdict::Agrees);
+    let left = work.count(|verdict| *verdict == Verdict::NotChecked);
+    let all = work.checks.len();
+    let _ = write!(out, "filed figures: {agree} of {all} agree");
+    if work.differing() > 0 {
+        let _ = write!(out, ", {} differ", work.differing());
+    }
+    if left > 0 {
+        let _ = write!(
+            out,
+            ", {left} not checked (the objective is not in this build)"
+        );
+    }
+    out.push('\n');
+    out
+}
+
+fn figure(check: &crate::work::Check) -> String {
+    use crate::text::Figure;
+    match &check.filed.figure {
+        Figure::Exact(v) => with_bits(*v),
+        Figure::Rounded { text, .. } => text.clone(),
+        Figure::None => "none".to_string(),
+    }
+}
+
+// ---- JSON
+
+pub fn string(text: &str) -> String {
+    let mut out = String::from("\"");
+    for c in text.chars() {
+        match c {
+            '"' => out.push_str("\\\""),
+            '\\' => out.push_str("\\\\"),
+            '\n' => out.push_str("\\n"),
+            c if (c as u32) < 0x20 => {
+                let _ = write!(out, "\\u{:04x}", c as u32);
+            }
+            c => out.push(c),
+        }
+    }
+    out.push('"');
+    out
+}
+
+pub fn object(fields: &[(&str, String)]) -> String {
+    let fields = fields
+        .iter()
+        .map(|(name, v)| format!("{}:{v}", string(name)));
+    format!("{{{}}}", fields.collect::<Vec<_>>().join(","))
+}
+
+fn array(items: impl Iterator<Item = String>) -> String {
+    format!("[{}]", items.collect::<Vec<_>>().join(","))
+}
+
+/// JSON has no NaN and no infinity.
+fn plain(v: f64) -> String {
+    if v.is_finite() {
+        v.to_string()
+    } else {
+        "null".to_string()
+    }
+}
+
+fn float(v: f64) -> String {
+    let bits = format!("{:016x}", v.to_bits());
+    object(&[("value", plain(v)), ("bits", string(&bits))])
+}
+
+fn optional(text: Option<String>) -> String {
+    text.unwrap_or_else(|| "null".to_string())
+}
+
+fn work_json(file: &File, work: &Work) -> Vec<(&'static str, String)> {
+    let chain = |chain: &crate::work::ChainWork| {
+        let parts = PARTS.iter().enumerate();
+        let end: Vec<_> = parts
+            .map(|(part, name)| (*name, float(part_of(&chain.end, part))))
+            .collect();
+        object(&[
+            ("name", string(&chain.name)),
+            ("links", chain.codes.len().to_string()),
+            ("joints", chain.joints.to_string()),
+            ("end", object(&end)),
+            ("azimuth", optional(chain.direction.azimuth.map(plain))),
+            ("inclination", plain(chain.direction.inclination)),
+        ])
+    };
+    let slopes = work.objective.as_ref();
+    let slopes = slopes.map(|found| array(found.slopes.iter().map(|v| float(*v))));
+    let check = |check: &crate::work::Check| {
+        let (verdict, came) = match &check.verdict {
+            Verdict::Agrees => ("agrees", None),
+            Verdict::Differs(came) => ("differs", Some(string(came))),
+            Verdict::NotChecked => ("not checked", None),
+        };
+        object(&[
+            ("figure", string(&check.filed.name)),
+            ("line", check.filed.line.to_string()),
+            ("verdict", string(verdict)),
+            ("filed", string(&figure(check))),
+            ("came_out", optional(came)),
+        ])
+    };
+    vec![
+        ("hole", string(&file.hole)),
+        ("chains", array(work.chains.iter().map(chain))),
+        ("manipulability", float(work.manipulability)),
+        (
+            "objective",
+            optional(work.objective.as_ref().map(|found| float(found.value))),
+        ),
+        ("slopes", optional(slopes)),
+        ("filed", array(work.checks.iter().map(check))),
+    ]
+}
+
+fn problem_json(problem: &Problem) -> String {
+    let (refusal, words) = match problem {
+        Problem::Unreadable(words) => (None, words),
+        Problem::Fault(Fault::Text(fault)) => (None, &fault.words),
+        Problem::Fault(Fault::Refused { refusal, words, .. }) => (Some(refusal), words),
+    };
+    object(&[
+        (
+            "refusal",
+            optional(refusal.map(|refusal| refusal.number().to_string())),
+        ),
+        ("words", string(words)),
+        (
+            "taken",
+            optional(refusal.map(|refusal| string(refusal.words()))),
+        ),
+    ])
+}
+
+#[cfg(test)]
+mod tests {
+    use super::*;
+
+    #[test]
+    fn strings_are_escaped() {
+        assert_eq!(string("a\"b\\c\n\u{1}é"), "\"a\\\"b\\\\c\\n\\u0001é\"");
+    }
+
+    #[test]
+    fn floats_keep_their_bits() {
+        let minus_zero = "{\"value\":-0,\"bits\":\"8000000000000000\"}";
+        assert_eq!(float(-0.0), minus_zero);
+        assert!(float(f64::NAN).starts_with("{\"value\":null,"));
+    }
+}

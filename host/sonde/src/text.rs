@@ -1,0 +1,533 @@
+//! The sheet's text. What each line may hold is in README.md. As little as
+//! possible is judged here: lists of any length and numbers of any size go on
+//! to the library, which refuses by number what it does not take.
+
+use relaxed_ik::Sheet;
+use std::fmt;
+
+/// A file larger than this is no sheet.
+pub const MOST_BYTES: usize = 1 << 20;
+
+const KINDS: [&str; 4] = ["fixed", "revolute", "continuous", "prismatic"];
+const AXES: [&str; 7] = ["none", "x", "y", "z", "-x", "-y", "-z"];
+/// The parts of an end pose, in the library's order.
+pub const PARTS: [&str; 7] = ["x", "y", "z", "w", "i", "j", "k"];
+
+/// What is wrong with the text itself.
+#[derive(Clone, Debug, PartialEq)]
+pub struct TextFault {
+    /// From 1; none if it is the file as a whole.
+    pub line: Option<usize>,
+    pub words: String,
+}
+
+impl fmt::Display for TextFault {
+    fn fmt(&self, f: &mut fmt::Formatter) -> fmt::Result {
+        match self.line {
+            Some(line) => write!(f, "line {line}: {}", self.words),
+            None => write!(f, "{}", self.words),
+        }
+    }
+}
+
+type Read<T> = Result<T, TextFault>;
+
+fn fault<T>(line: usize, words: impl Into<String>) -> Read<T> {
+    Err(TextFault {
+        line: Some(line),
+        words: words.into(),
+    })
+}
+
+/// The numbers of one line.
+#[derive(Clone, Debug, Default, PartialEq)]
+pub struct Row {
+    pub line: usize,
+    pub numbers: Vec<f64>,
+}
+
+#[derive(Clone, Debug)]
+pub struct Link {
+    pub code: u16,
+    pub row: Row,
+}
+
+#[derive(Clone, Debug)]
+pub struct Chain {
+    pub line: usize,
+    pub name: String,
+    pub links: Vec<Link>,
+}
+
+impl Chain {
+    pub fn joints(&self) -> usize {
+        self.links.iter().filter(|link| link.code != 0).count()
+    }
+}
+
+/// What a filed figure is of.
+#[derive(Clone, Copy, Debug, PartialEq)]
+pub enum Key {
+    /// A chain and a part of its end pose.
+    End(usize, usize),
+    Azimuth(usize),
+    Inclination(usize),
+    Manipulability,
+    Objective,
+    Slope(usize),
+}
+
+/// A figure as it was filed.
+#[derive(Clone, Debug, PartialEq)]
+pub enum Figure {
+    /// To the bit.
+    Exact(f64),
+    /// In degrees, to as many decimals as are written.
+    Rounded { text: String, decimals: usize },
+    /// An azimuth that there is none of.
+    None,
+}
+
+#[derive(Clone, Debug)]
+pub struct Filed {
+    pub line: usize,
+    pub name: String,
+    pub key: Key,
+    pub figure: Figure,
+}
+
+/// A sheet as it is written, with the lines it came from.
+#[derive(Clone, Debug, Default)]
+pub struct File {
+    pub hole: String,
+    pub chains: Vec<Chain>,
+    pub limits: Vec<Row>,
+    pub joints: Vec<Row>,
+    pub history: Vec<Row>,
+    pub goals: Vec<Row>,
+    pub filed: Vec<Filed>,
+}
+
+/// The lists as the library is lent them.
+#[derive(Clone, Debug, Default)]
+pub struct Lists {
+    pub sizes: Vec<u16>,
+    pub codes: Vec<u16>,
+    pub floats: Vec<f64>,
+    pub limits: Vec<f64>,
+    pub joints: Vec<f64>,
+    pub history: Vec<f64>,
+    pub goals: Vec<f64>,
+}
+
+impl Lists {
+    pub fn sheet(&self) -> Sheet<'_> {
+        Sheet {
+            sizes: &self.sizes,
+            codes: &self.codes,
+            floats: &self.floats,
+            limits: &self.limits,
+        }
+    }
+}
+
+fn all(rows: &[Row]) -> Vec<f64> {
+    rows.iter().flat_map(|row| row.numbers.clone()).collect()
+}
+
+impl File {
+    /// Links in order, across chains.
+    pub fn links(&self) -> impl Iterator<Item = (&Chain, usize, &Link)> {
+        let numbered = |chain| links_of(chain).map(move |(at, link)| (chain, at, link));
+        self.chains.iter().flat_map(numbered)
+    }
+
+    pub fn lists(&self) -> Lists {
+        // A count beyond u16 is beyond what is taken, whatever it is.
+        let short = |n: usize| u16::try_from(n).unwrap_or(u16::MAX);
+        let mut sizes = vec![short(self.chains.len())];
+        sizes.extend(self.chains.iter().map(|chain| short(chain.links.len())));
+        let floats = self
+            .links()
+            .flat_map(|(_, _, link)| link.row.numbers.clone());
+        Lists {
+            sizes,
+            codes: self.links().map(|(_, _, link)| link.code).collect(),
+            floats: floats.collect(),
+            limits: all(&self.limits),
+            joints: all(&self.joints),
+            history: all(&self.history),
+            goals: all(&self.goals),
+        }
+    }
+
+    /// A line too long whose neighbour is too short by as much: the library sees
+    /// one list and could not tell.
+    pub fn uneven(&self) -> Option<TextFault> {
+        let links: Vec<&Row> = self.links().map(|(_, _, link)| &link.row).collect();
+        let joints = self.chains.iter().map(Chain::joints).sum();
+        let history: Vec<&Row> = self.history.iter().collect();
+        let goals: Vec<&Row> = self.goals.iter().collect();
+        let limits: Vec<&Row> = self.limits.iter().collect();
+        for (what, rows, each, count) in [
+            ("link", &links, 7, links.len()),
+            ("limits", &limits, 2, joints),
+            ("history", &history, joints, 4),
+            ("goal", &goals, 13, self.chains.len()),
+        ] {
+            let total: usize = rows.iter().map(|row| row.numbers.len()).sum();
+            let odd = rows.iter().find(|row| row.numbers.len() != each);
+            if let (Some(row), true) = (odd, total == each * count) {
+                let found = row.numbers.len();
+                return Some(TextFault {
+                    line: Some(row.line),
+                    words: format!("a {what} line of {found} numbers, {each} are needed"),
+                });
+            }
+        }
+        None
+    }
+}
+
+fn links_of(chain: &Chain) -> impl Iterator<Item = (usize, &Link)> {
+    chain.links.iter().enumerate()
+}
+
+/// A decimal, or 0x and the 16 digits of the bits.
+fn number(line: usize, word: &str) -> Read<f64> {
+    if let Some(digits) = word.strip_prefix("0x") {
+        return bits(line, digits);
+    }
+    match word.parse() {
+        Ok(number) => Ok(number),
+        Err(_) => fault(line, format!("not a number: {word}")),
+    }
+}
+
+fn bits(line: usize, digits: &str) -> Read<f64> {
+    let whole = digits.len() == 16 && digits.bytes().all(|b| b.is_ascii_hexdigit());
+    match u64::from_str_radix(digits, 16) {
+        Ok(bits) if whole => Ok(f64::from_bits(bits)),
+        _ => fault(line, format!("not 16 hexadecimal digits: {digits}")),
+    }
+}
+
+fn row(line: usize, words: &[&str]) -> Read<Row> {
+    let numbers = words.iter().map(|word| number(line, word));
+    Ok(Row {
+        line,
+        numbers: numbers.collect::<Read<_>>()?,
+    })
+}
+
+fn link(line: usize, words: &[&str]) -> Read<Link> {
+    let at = |list: &[&str], word: &str| list.iter().position(|known| *known == word);
+    let (code, rest) = match words {
+        ["code", code, rest @ ..] => match code.parse() {
+            Ok(code) => (code, rest),
+            Err(_) => return fault(line, format!("not a code from 0 to 65535: {code}")),
+        },
+        ["fixed", rest @ ..] => (0, rest),
+        [kind, rest @ ..] => {
+            let Some(kind_at) = at(&KINDS, kind) else {
+                let known = KINDS.join(", ");
+                return fault(
+                    line,
+                    format!("no kind of link: {kind} ({known}, or code N)"),
+                );
+            };
+            let axis = rest.first().and_then(|word| at(&AXES, word));
+            let Some(axis) = axis else {
+                let found = rest.first().unwrap_or(&"nothing");
+                let known = AXES.join(", ");
+                return fault(line, format!("no axis after {kind}: {found} ({known})"));
+            };
+            ((10 * kind_at + axis) as u16, &rest[1..])
+        }
+        [] => return fault(line, "a link of no kind"),
+    };
+    Ok(Link {
+        code,
+        row: row(line, rest)?,
+    })
+}
+
+fn limits(line: usize, words: &[&str]) -> Read<Row> {
+    match words {
+        ["free"] => Ok(Row {
+            line,
+            numbers: vec![-999.0, 999.0],
+        }),
+        _ => row(line, words),
+    }
+}
+
+/// A chain's name is one word of letters, digits, - and _.
+fn chain_name(line: usize, words: &[&str], chains: &[Chain]) -> Read<String> {
+    let [name] = words else {
+        return fault(line, "a chain has a name of one word");
+    };
+    let plain = |c: char| c.is_alphanumeric() || c == '-' || c == '_';
+    if !name.chars().all(plain) {
+        return fault(line, format!("a name of letters, digits, - and _: {name}"));
+    }
+    if chains.iter().any(|chain| chain.name == *name) || *name == "slope" {
+        return fault(line, format!("a name that is taken: {name}"));
+    }
+    Ok(name.to_string())
+}
+
+fn key(line: usize, name: &str, chains: &[Chain]) -> Read<Key> {
+    match name {
+        "manipulability" => return Ok(Key::Manipulability),
+        "objective" => return Ok(Key::Objective),
+        _ => {}
+    }
+    let unknown = || fault(line, format!("no figure that a sheet has: {name}"));
+    let Some((of, part)) = name.split_once('.') else {
+        return unknown();
+    };
+    if of == "slope" {
+        return part.parse().map(Key::Slope).or_else(|_| unknown());
+    }
+    let Some(chain) = chains.iter().position(|chain| chain.name == of) else {
+        return fault(line, format!("no chain named {of}"));
+    };
+    match part {
+        "azimuth" => Ok(Key::Azimuth(chain)),
+        "inclination" => Ok(Key::Inclination(chain)),
+        _ => match PARTS.iter().position(|known| *known == part) {
+            Some(part) => Ok(Key::End(chain, part)),
+            None => unknown(),
+        },
+    }
+}
+
+/// An angle in degrees, with the decimals it is written to.
+fn rounded(line: usize, word: &str) -> Read<Figure> {
+    let (whole, decimals) = word.split_once('.').unwrap_or((word, ""));
+    let digits = |text: &str| text.bytes().all(|b| b.is_ascii_digit());
+    if whole.is_empty() || !digits(whole) || !digits(decimals) || decimals.len() > 9 {
+        return fault(line, format!("not degrees with at most 9 decimals: {word}"));
+    }
+    Ok(Figure::Rounded {
+        text: word.to_string(),
+        decimals: decimals.len(),
+    })
+}
+
+fn filed(line: usize, words: &[&str], chains: &[Chain]) -> Read<Filed> {
+    let [name, figure @ ..] = words else {
+        return fault(line, "filed, and nothing after it");
+    };
+    let key = key(line, name, chains)?;
+    let figure = match (key, figure) {
+        (Key::Azimuth(_), ["none"]) => Figure::None,
+        (Key::Azimuth(_) | Key::Inclination(_), [degrees]) => rounded(line, degrees)?,
+        (Key::Azimuth(_) | Key::Inclination(_), _) => {
+            return fault(line, format!("{name} is filed in degrees, without bits"))
+        }
+        (_, [decimal, digits]) => {
+            let (decimal, exact) = (number(line, decimal)?, bits(line, digits)?);
+            if !same(decimal, exact) {
+                let words = format!("{name}: the bits are those of {exact}, not of {decimal}");
+                return fault(line, words);
+            }
+            Figure::Exact(exact)
+        }
+        _ => return fault(line, format!("{name} is filed as a decimal and its bits")),
+    };
+    Ok(Filed {
+        line,
+        name: name.to_string(),
+        key,
+        figure,
+    })
+}
+
+/// Bit for bit, a NaN matching a NaN.
+pub fn same(a: f64, b: f64) -> bool {
+    a.to_bits() == b.to_bits() || a.is_nan() && b.is_nan()
+}
+
+/// Up to a # that starts the line or follows a space.
+fn without_comment(line: &str) -> &str {
+    let mut before = ' ';
+    for (at, c) in line.char_indices() {
+        if c == '#' && before.is_whitespace() {
+            return &line[..at];
+        }
+        before = c;
+    }
+    line
+}
+
+pub fn parse(bytes: &[u8]) -> Read<File> {
+    let whole = |words: String| TextFault { line: None, words };
+    if bytes.len() > MOST_BYTES {
+        return Err(whole(format!("over {MOST_BYTES} bytes: no sheet")));
+    }
+    let text = std::str::from_utf8(bytes).or_else(|e| {
+        let before = &bytes[..e.valid_up_to()];
+        let line = 1 + before.iter().filter(|&&b| b == b'\n').count();
+        fault(line, "bytes that are no UTF-8 text")
+    })?;
+    let mut file = File::default();
+    let mut started = false;
+    let mut hole = None;
+    for (at, text) in text.trim_start_matches('\u{feff}').lines().enumerate() {
+        let line = at + 1;
+        let text = without_comment(text);
+        let words: Vec<&str> = text.split_whitespace().collect();
+        let [word, rest @ ..] = &words[..] else {
+            continue;
+        };
+        if !started {
+            if words != ["sonde", "1"] {
+                return fault(line, "the first line of a sheet is: sonde 1");
+            }
+            started = true;
+            continue;
+        }
+        match *word {
+            "hole" if hole.is_some() => return fault(line, "a second hole"),
+            "hole" => hole = Some(rest.join(" ")),
+            "chain" => {
+                let name = chain_name(line, rest, &file.chains)?;
+                file.chains.push(Chain {
+                    line,
+                    name,
+                    links: Vec::new(),
+                });
+            }
+            "link" => match file.chains.last_mut() {
+                Some(chain) => chain.links.push(link(line, rest)?),
+                None => return fault(line, "a link before the first chain"),
+            },
+            "limits" => file.limits.push(limits(line, rest)?),
+            "joints" => file.joints.push(row(line, rest)?),
+            "history" => file.history.push(row(line, rest)?),
+            "goal" => file.goals.push(row(line, rest)?),
+            "filed" => {
+                let filed = filed(line, rest, &file.chains)?;
+                if file.filed.iter().any(|other| other.key == filed.key) {
+                    return fault(line, format!("{} is filed a second time", filed.name));
+                }
+                file.filed.push(filed);
+            }
+            other => return fault(line, format!("no word that a sheet has: {other}")),
+        }
+    }
+    if !started {
+        return Err(whole("an empty sheet".to_string()));
+    }
+    file.hole = hole.unwrap_or_default();
+    let of_goals = |filed: &&Filed| matches!(filed.key, Key::Objective | Key::Slope(_));
+    if let (true, Some(filed)) = (file.goals.is_empty(), file.filed.iter().find(of_goals)) {
+        let words = format!("{} is filed, and the sheet has no goal", filed.name);
+        return fault(filed.line, words);
+    }
+    Ok(file)
+}
+
+#[cfg(test)]
+mod tests {
+    use super::*;
+
+    const GOOD: &str = "\
+# a comment
+sonde 1
+hole Borehole no. 7#2  # its name
+chain mast
+link revolute z  0 0 1  1 0 0 0
+limits -3 3
+link fixed  0 0 1  1 0 0 0
+link prismatic -y  0 0 1  1 0 0 0
+limits free
+joints 0.5 0x3ff0000000000000
+goal 0 0 1  1 0 0 0  0 0 0 0 0 0
+filed mast.x 1.5 3ff8000000000000
+filed mast.azimuth 90.00
+filed slope.1 -0 8000000000000000
+";
+
+    fn told(text: &str) -> (Option<usize>, String) {
+        let fault = parse(text.as_bytes()).unwrap_err();
+        (fault.line, fault.words)
+    }
+
+    #[test]
+    fn a_sheet_is_read() {
+        let file = parse(GOOD.as_bytes()).unwrap();
+        assert_eq!(file.hole, "Borehole no. 7#2");
+        let lists = file.lists();
+        assert_eq!(lists.sizes, [1, 3]);
+        assert_eq!(lists.codes, [13, 0, 35]);
+        assert_eq!(lists.limits, [-3.0, 3.0, -999.0, 999.0]);
+        assert_eq!(lists.joints, [0.5, 1.0]);
+        assert_eq!((lists.floats.len(), lists.goals.len()), (21, 13));
+        let keys: Vec<Key> = file.filed.iter().map(|filed| filed.key).collect();
+        assert_eq!(keys, [Key::End(0, 0), Key::Azimuth(0), Key::Slope(1)]);
+        assert_eq!(file.filed[2].figure, Figure::Exact(-0.0));
+        assert!(file.uneven().is_none());
+    }
+
+    /// Line ends of either kind, and a byte order mark.
+    #[test]
+    fn other_line_ends_are_read() {
+        let text = format!("\u{feff}{}", GOOD.replace('\n', "\r\n"));
+        assert_eq!(parse(text.as_bytes()).unwrap().chains[0].links.len(), 3);
+    }
+
+    #[test]
+    fn faults_have_their_line() {
+        for (good, bad, line, words) in [
+            ("sonde 1", "sonde 2", 2, "the first line"),
+            ("hole", "well", 3, "no word that a sheet has: well"),
+            ("chain mast", "chain a mast", 4, "one word"),
+            ("chain mast", "chain a.b", 4, "letters"),
+            ("chain mast", "", 5, "before the first chain"),
+            ("revolute z", "spherical z", 5, "no kind of link: spherical"),
+            ("revolute z", "revolute w", 5, "no axis after revolute: w"),
+            ("revolute z", "code 65536", 5, "not a code"),
+            ("0 0 1  1", "0 0 l  1", 5, "not a number: l"),
+            ("limits -3 3", "limits -3 ,3", 6, "not a number: ,3"),
+            ("0x3ff0000000000000", "0x3ff", 10, "16 hexadecimal"),
+            ("mast.x", "mast.v", 12, "no figure"),
+            ("mast.x", "boom.x", 12, "no chain named boom"),
+            ("1.5 3ff8", "1.25 3ff8", 12, "the bits are those of 1.5"),
+            ("1.5 3ff8000000000000", "1.5", 12, "a decimal and its bits"),
+            ("90.00", "90.00 4056800000000000", 13, "without bits"),
+            ("90.00", "9e1", 13, "not degrees"),
+            ("slope.1", "mast.x", 14, "a second time"),
+        ] {
+            let text = GOOD.replacen(good, bad, 1);
+            assert_ne!(text, GOOD);
+            let (found, said) = told(&text);
+            assert_eq!(found, Some(line), "{said}");
+            assert!(said.contains(words), "{said}");
+        }
+        assert_eq!(told("# nothing\n"), (None, "an empty sheet".to_string()));
+        let (line, words) = told(&GOOD.replacen("goal", "#", 1));
+        assert_eq!(line, Some(14));
+        assert!(words.contains("has no goal"), "{words}");
+    }
+
+    #[test]
+    fn what_is_no_text_is_told() {
+        let fault = parse(b"sonde 1\nhole \xff\n").unwrap_err();
+        assert_eq!(fault.line, Some(2));
+        assert!(parse(&vec![b' '; MOST_BYTES + 1]).is_err());
+    }
+
+    /// Two faults that make up for each other in the list as a whole.
+    #[test]
+    fn uneven_lines_are_told() {
+        let text = GOOD.replacen("1 0 0 0\nlimits", "1 0 0\nlimits", 1);
+        let longer = text.replacen("link fixed", "link fixed 0", 1);
+        let fault = parse(longer.as_bytes()).unwrap().uneven().unwrap();
+        assert_eq!(fault.line, Some(5));
+        // One alone is for the library to refuse.
+        assert!(parse(text.as_bytes()).unwrap().uneven().is_none());
+    }
+}

@@ -1,0 +1,433 @@
+//! A sheet worked out again: everything but the direction is the library's.
+
+use crate::text::{same, Figure, File, Filed, Key, TextFault};
+use crate::why;
+use relaxed_ik::{Frames, Pose, Refusal};
+
+/// Whether this program was built with the objective.
+pub const HAS_OBJECTIVE: bool = cfg!(feature = "objective");
+
+/// Under this, the horizontal part of the axis says nothing of an azimuth.
+const LEAST_HORIZONTAL: f64 = 1e-9;
+
+/// Where the end frame's z axis points. Not the library's: from the proved
+/// rotation, with the standard library's `hypot` and `atan2`, so its last bits
+/// may differ from one system to another.
+#[derive(Clone, Copy, Debug, PartialEq)]
+pub struct Direction {
+    pub axis: [f64; 3],
+    /// Degrees clockwise from north (+y), east being +x; none if the axis is
+    /// vertical.
+    pub azimuth: Option<f64>,
+    /// Degrees from straight down.
+    pub inclination: f64,
+}
+
+impl Direction {
+    fn of(end: &Pose) -> Self {
+        let axis = end.rotate([0.0, 0.0, 1.0]);
+        let [east, north, up] = axis;
+        let horizontal = east.hypot(north);
+        let azimuth = (horizontal > LEAST_HORIZONTAL).then(|| {
+            let degrees = east.atan2(north).to_degrees();
+            // Adding a turn to a tiny negative angle rounds to the turn itself.
+            let positive = if degrees < 0.0 {
+                degrees + 360.0
+            } else {
+                degrees
+            };
+            if positive >= 360.0 {
+                0.0
+            } else {
+                positive
+            }
+        });
+        Self {
+            axis,
+            azimuth,
+            inclination: horizontal.atan2(-up).to_degrees(),
+        }
+    }
+}
+
+#[derive(Clone, Debug)]
+pub struct ChainWork {
+    pub name: String,
+    pub codes: Vec<u16>,
+    pub joints: usize,
+    pub end: Pose,
+    pub direction: Direction,
+    pub frames: Frames,
+    /// 13 floats, if the sheet has goals.
+    pub goal: Option<Vec<f64>>,
+}
+
+#[derive(Clone, Debug, PartialEq)]
+pub struct Slopes {
+    pub value: f64,
+    pub slopes: Vec<f64>,
+}
+
+#[derive(Clone, Debug)]
+pub struct Work {
+    pub chains: Vec<ChainWork>,
+    pub manipulability: f64,
+    /// None without goals, and where the program was built without it.
+    pub objective: Option<Slopes>,
+    pub checks: Vec<Check>,
+}
+
+/// A filed figure held against the one worked out again.
+#[derive(Clone, Debug)]
+pub struct Check {
+    pub filed: Filed,
+    pub verdict: Verdict,
+}
+
+#[derive(Clone, Debug, PartialEq)]
+pub enum Verdict {
+    Agrees,
+    /// With what came out.
+    Differs(String),
+    /// The program was built without the objective.
+    NotChecked,
+}
+
+/// Why a sheet could not be worked out.
+#[derive(Clone, Debug, PartialEq)]
+pub enum Fault {
+    Text(TextFault),
+    Refused {
+        refusal: Refusal,
+        line: Option<usize>,
+        words: String,
+    },
+}
+
+impl Fault {
+    fn refused(refusal: Refusal, file: &File) -> Self {
+        let (line, words) = why::find(refusal, file)
+            .unwrap_or_else(|| (None, "no single value is at fault".to_string()));
+        Self::Refused {
+            refusal,
+            line,
+            words,
+        }
+    }
+}
+
+impl Work {
+    pub fn count(&self, wanted: impl Fn(&Verdict) -> bool) -> usize {
+        let verdicts = self.checks.iter().map(|check| &check.verdict);
+        verdicts.filter(|verdict| wanted(verdict)).count()
+    }
+
+    pub fn differing(&self) -> usize {
+        self.count(|verdict| matches!(verdict, Verdict::Differs(_)))
+    }
+
+    pub fn first_differing(&self) -> Option<usize> {
+        let mut checks = self.checks.iter();
+        let first = checks.find(|check| matches!(check.verdict, Verdict::Differs(_)));
+        first.map(|check| check.filed.line)
+    }
+
+    fn check(&self, filed: &Filed) -> Verdict {
+        let exact = match filed.key {
+            Key::End(chain, part) => part_of(&self.chains[chain].end, part),
+            Key::Manipulability => self.manipulability,
+            Key::Objective | Key::Slope(_) => match (&self.objective, filed.key) {
+                (None, _) => return Verdict::NotChecked,
+                (Some(objective), Key::Slope(at)) => objective.slopes[at],
+                (Some(objective), _) => objective.value,
+            },
+            Key::Azimuth(chain) => {
+                return degrees(self.chains[chain].direction.azimuth, &filed.figure)
+            }
+            Key::Inclination(chain) => {
+                let inclination = self.chains[chain].direction.inclination;
+                return degrees(Some(inclination), &filed.figure);
+            }
+        };
+        match filed.figure {
+            Figure::Exact(figure) if same(figure, exact) => Verdict::Agrees,
+            _ => Verdict::Differs(with_bits(exact)),
+        }
+    }
+}
+
+/// A float as the sheets write it.
+pub fn with_bits(v: f64) -> String {
+    format!("{v} {:016x}", v.to_bits())
+}
+
+pub fn part_of(end: &Pose, part: usize) -> f64 {
+    match part {
+        0..=2 => end.position[part],
+        _ => end.rotation[part - 3],
+    }
+}
+
+/// An angle agrees if it rounds to what was filed; 360 is 0.
+fn degrees(computed: Option<f64>, figure: &Figure) -> Verdict {
+    let turn = |text: String| match text.strip_prefix("360") {
+        Some(rest) if rest.bytes().all(|b| b == b'0' || b == b'.') => format!("0{rest}"),
+        _ => text,
+    };
+    match (computed, figure) {
+        (None, Figure::None) => Verdict::Agrees,
+        (None, _) => Verdict::Differs("none".to_string()),
+        (Some(v), Figure::Rounded { text, decimals }) => {
+            let rounded = turn(format!("{v:.decimals$}"));
+            if rounded == turn(text.clone()) {
+                Verdict::Agrees
+            } else {
+                Verdict::Differs(rounded)
+            }
+        }
+        (Some(v), _) => Verdict::Differs(format!("{v:.4}")),
+    }
+}
+
+#[cfg(feature = "objective")]
+fn objective(
+    sheet: relaxed_ik::Sheet,
+    goals: &[f64],
+    history: &[f64],
+    joints: &[f64],
+) -> Result<Option<Slopes>, Refusal> {
+    let given = relaxed_ik::Given {
+        sheet,
+        goals,
+        history,
+    };
+    let (found, _) = given.gradient_one_block(joints)?;
+    Ok(Some(Slopes {
+        value: found.value,
+        slopes: found.slopes,
+    }))
+}
+
+#[cfg(not(feature = "objective"))]
+fn objective(
+    _: relaxed_ik::Sheet,
+    _: &[f64],
+    _: &[f64],
+    _: &[f64],
+) -> Result<Option<Slopes>, Refusal> {
+    Ok(None)
+}
+
+/// Asks the library for everything. Its calls look at everything they are lent,
+/// lowest number first, and are asked in the order of their own numbers: the
+/// sheet, joints and history, goals.
+pub fn work(file: &File) -> Result<Work, Fault> {
+    if let Some(uneven) = file.uneven() {
+        return Err(Fault::Text(uneven));
+    }
+    let lists = file.lists();
+    let sheet = lists.sheet();
+    let answer = || -> Result<Work, Refusal> {
+        sheet.load()?;
+        let ends = sheet.poses(&lists.joints)?;
+        let frames = sheet.frames(&lists.joints)?;
+        let manipulability = sheet.manipulability(&lists.joints)?;
+        let history = if file.history.is_empty() {
+            sheet.reset(&lists.joints)?.history
+        } else {
+            // Only to have it looked at.
+            sheet.update(&lists.history, &lists.joints)?;
+            lists.history.clone()
+        };
+        let mut found = None;
+        if !file.goals.is_empty() {
+            sheet.set_goals(&lists.goals)?;
+            found = objective(sheet, &lists.goals, &history, &lists.joints)?;
+        }
+        let parts = file.chains.iter().zip(ends).zip(frames).enumerate();
+        let chains = parts.map(|(at, ((chain, end), frames))| ChainWork {
+            name: chain.name.clone(),
+            codes: chain.links.iter().map(|link| link.code).collect(),
+            joints: chain.joints(),
+            direction: Direction::of(&end),
+            end,
+            frames,
+            goal: file.goals.get(at).map(|row| row.numbers.clone()),
+        });
+        Ok(Work {
+            chains: chains.collect(),
+            manipulability,
+            objective: found,
+            checks: Vec::new(),
+        })
+    };
+    let mut work = answer().map_err(|refusal| Fault::refused(refusal, file))?;
+    let joints = sheet.joints();
+    let beyond = |filed: &&Filed| matches!(filed.key, Key::Slope(at) if at >= joints);
+    if let Some(filed) = file.filed.iter().find(beyond) {
+        return Err(Fault::Text(TextFault {
+            line: Some(filed.line),
+            words: format!("{} is filed of {joints} joints, counted from 0", filed.name),
+        }));
+    }
+    let checks = file.filed.iter().map(|filed| Check {
+        filed: filed.clone(),
+        verdict: work.check(filed),
+    });
+    work.checks = checks.collect();
+    Ok(work)
+}
+
+#[cfg(test)]
+mod tests {
+    use super::*;
+    use crate::text::parse;
+
+    fn at(rotation: [f64; 4]) -> Direction {
+        Direction::of(&Pose {
+            position: [0.0; 3],
+            rotation,
+        })
+    }
+
+    /// The end frame turned about one axis by a quarter or a half.
+    #[test]
+    fn directions() {
+        let h = 0.5f64.sqrt();
+        for (rotation, azimuth, inclination) in [
+            ([1.0, 0.0, 0.0, 0.0], None, 180.0),
+            ([0.0, 1.0, 0.0, 0.0], None, 0.0),
+            ([h, 0.0, h, 0.0], Some(90.0), 90.0),
+            ([h, 0.0, -h, 0.0], Some(270.0), 90.0),
+            ([h, -h, 0.0, 0.0], Some(0.0), 90.0),
+            ([h, h, 0.0, 0.0], Some(180.0), 90.0),
+        ] {
+            let direction = at(rotation);
+            let near = |a: f64, b: f64| (a - b).abs() < 1e-9 || (a - b).abs() > 360.0 - 1e-9;
+            assert!(near(direction.inclination, inclination), "{direction:?}");
+            match (direction.azimuth, azimuth) {
+                (Some(a), Some(b)) => assert!(near(a, b), "{direction:?}"),
+                (a, b) => assert_eq!(a, b, "{direction:?}"),
+            }
+        }
+    }
+
+    /// Always 0 or more and under 360.
+    #[test]
+    fn an_azimuth_is_under_a_turn() {
+        for tilt in [1e-17, -1e-17, 1e-8, -1e-8] {
+            let h = 0.5f64.sqrt();
+            let azimuth = at([h, -h, tilt, tilt]).azimuth.unwrap();
+            assert!((0.0..360.0).contains(&azimuth), "{azimuth}");
+        }
+    }
+
+    #[test]
+    fn degrees_agree_when_they_round_to_what_is_filed() {
+        let filed = |text: &str| Figure::Rounded {
+            text: text.to_string(),
+            decimals: text.split_once('.').map_or(0, |(_, d)| d.len()),
+        };
+        assert_eq!(degrees(Some(12.344), &filed("12.34")), Verdict::Agrees);
+        assert_eq!(degrees(Some(359.999), &filed("0.00")), Verdict::Agrees);
+        assert_eq!(degrees(Some(0.0), &filed("360.0")), Verdict::Agrees);
+        assert_eq!(degrees(None, &Figure::None), Verdict::Agrees);
+        let differs = Verdict::Differs("12.35".to_string());
+        assert_eq!(degrees(Some(12.346), &filed("12.34")), differs);
+        assert_ne!(degrees(None, &filed("12.34")), Verdict::Agrees);
+        assert_ne!(degrees(Some(1.0), &Figure::None), Verdict::Agrees);
+    }
+
+    const TWO: &str = "\
+sonde 1
+chain arm
+link revolute z  0 0 1  1 0 0 0
+link revolute y  0 0 1  1 0 0 0
+limits -3 3
+limits -3 3
+joints 0 0
+goal 0 0 2  1 0 0 0  0 0 0 0 0 0
+filed arm.z 2 4000000000000000
+";
+
+    fn refused(good: &str, bad: &str) -> (u32, Option<usize>, String) {
+        let text = TWO.replacen(good, bad, 1);
+        assert_ne!(text, TWO);
+        match work(&parse(text.as_bytes()).unwrap()).unwrap_err() {
+            Fault::Refused {
+                refusal,
+                line,
+                words,
+            } => (refusal.number(), line, words),
+            Fault::Text(fault) => panic!("{fault}"),
+        }
+    }
+
+    #[test]
+    fn a_filed_figure_agrees_or_differs() {
+        let found = work(&parse(TWO.as_bytes()).unwrap()).unwrap();
+        assert_eq!((found.differing(), found.checks.len()), (0, 1));
+        let off = TWO.replace("2 4000000000000000", "0x4000000000000001 4000000000000001");
+        let found = work(&parse(off.as_bytes()).unwrap()).unwrap();
+        assert_eq!(found.differing(), 1);
+        let came = Verdict::Differs("2 4000000000000000".to_string());
+        assert_eq!(found.checks[0].verdict, came);
+    }
+
+    /// The number is the library's, the line and the value are found here.
+    #[test]
+    fn the_value_at_fault_is_named() {
+        let history = |rest: &str| format!("joints 0 0\nhistory {rest}");
+        let block = "0 0\nhistory 0 0\nhistory 0 0\nhistory 0 ";
+        for (good, bad, number, line, words) in [
+            ("chain arm\n", "chain arm\nchain b\n", 1, 2, "has 0"),
+            ("link revolute z  0", "link revolute z", 2, 3, "6 numbers"),
+            ("revolute y", "code 37", 3, 4, "code 37"),
+            ("revolute y", "fixed", 4, 2, "chain arm has 1"),
+            ("limits -3 3\n", "", 5, 5, "the sheet has 1"),
+            ("limits -3 3", "limits -3 nan", 5, 5, "upper limit NaN"),
+            ("limits -3 3", "limits 1 1.001", 5, 5, "under 0.001"),
+            ("0 0 1  1", "0 -11 1  1", 6, 3, "displacement y is -11"),
+            ("0 0 1  1", "0 0 1  1.1", 6, 3, "sum to 1.21"),
+            ("joints 0 0", "joints 0", 7, 7, "the sheet has 1"),
+            ("joints 0 0", "joints 0 8.5", 7, 7, "joint 1 is 8.5"),
+            ("joints 0 0", &history("0 0"), 7, 8, "the sheet has 1"),
+            (
+                "joints 0 0",
+                &history(&format!("{block}9")),
+                7,
+                11,
+                "block 3: joint 1 is 9",
+            ),
+            ("goal 0 0 2", "goal 0 0 101", 8, 8, "position z is 101"),
+            ("goal 0 0 2", "goal 0 0", 8, 8, "12 numbers"),
+            (
+                "0 0 0 0 0 0\n",
+                "0 0 0 0 0 -200\n",
+                8,
+                8,
+                "tolerance 5 is -200",
+            ),
+        ] {
+            let (found, at, said) = refused(good, bad);
+            assert_eq!((found, at), (number, Some(line)), "{bad}: {said}");
+            assert!(said.contains(words), "{said}");
+        }
+        let far = format!("{TWO}filed slope.2 0 0000000000000000\n");
+        let fault = work(&parse(far.as_bytes()).unwrap()).unwrap_err();
+        assert!(matches!(
+            fault,
+            Fault::Text(TextFault { line: Some(10), .. })
+        ));
+        let empty = parse(b"sonde 1\njoints 0 0\n").unwrap();
+        let fault = work(&empty).unwrap_err();
+        assert!(matches!(
+            fault,
+            Fault::Refused {
+                refusal: Refusal::Sizes,
+                line: None,
+                ..
+            }
+        ));
+    }
+}

@@ -1,0 +1,120 @@
+//! The program on the sample sheets: the good ones are worked out and agree, a
+//! bad one ends with the status, and names the line, that its first line says.
+
+use std::fs;
+use std::path::{Path, PathBuf};
+use std::process::{Command, Output};
+
+fn sonde(arguments: &[&str]) -> Output {
+    let program = env!("CARGO_BIN_EXE_sonde");
+    Command::new(program).args(arguments).output().unwrap()
+}
+
+fn folder(name: &str) -> PathBuf {
+    let root = Path::new(env!("CARGO_MANIFEST_DIR")).join("../..");
+    root.join("examples/sheets").join(name)
+}
+
+fn sheets(name: &str) -> Vec<PathBuf> {
+    let entries = fs::read_dir(folder(name)).unwrap();
+    let mut paths: Vec<PathBuf> = entries.map(|entry| entry.unwrap().path()).collect();
+    paths.sort();
+    assert!(!paths.is_empty());
+    paths
+}
+
+fn said(output: &Output) -> String {
+    String::from_utf8(output.stdout.clone()).unwrap()
+}
+
+/// What stands after a name in a line of JSON, up to the next comma.
+fn field(json: &str, name: &str) -> String {
+    let name = format!("\"{name}\":");
+    let at = json.find(&name).unwrap() + name.len();
+    json[at..].split([',', '}']).next().unwrap().to_string()
+}
+
+#[test]
+fn good_sheets_agree() {
+    for path in sheets("good") {
+        let output = sonde(&[path.to_str().unwrap()]);
+        let text = said(&output);
+        assert_eq!(output.status.code(), Some(0), "{text}");
+        let filed = fs::read_to_string(&path).unwrap();
+        let filed = filed
+            .lines()
+            .filter(|line| line.starts_with("filed "))
+            .count();
+        if filed == 0 {
+            assert!(text.ends_with("no figures are filed\n"), "{text}");
+        } else if cfg!(feature = "objective") {
+            let line = format!("filed figures: {filed} of {filed} agree\n");
+            assert!(text.ends_with(&line), "{text}");
+        } else {
+            assert!(!text.contains("differ"), "{text}");
+        }
+    }
+}
+
+#[test]
+fn bad_sheets_end_as_they_say() {
+    let mut statuses = Vec::new();
+    for path in sheets("bad") {
+        let first = fs::read_to_string(&path).unwrap();
+        let first = first.lines().next().unwrap();
+        let expected = first.strip_prefix("# expected: status ").unwrap();
+        let (status, place) = expected.split_once(", ").unwrap();
+        let output = sonde(&[path.to_str().unwrap(), "--json"]);
+        let json = said(&output);
+        assert_eq!(output.status.code(), status.parse().ok(), "{json}");
+        assert_eq!(field(&json, "status"), status, "{json}");
+        assert_eq!(format!("line {}", field(&json, "line")), place, "{json}");
+        // In words, too, each names its line.
+        let text = said(&sonde(&[path.to_str().unwrap()]));
+        assert!(text.contains(&format!("{place}: ")), "{text}");
+        statuses.push(output.status.code().unwrap());
+    }
+    for number in 1..=8 {
+        assert!(
+            statuses.contains(&(10 + number)),
+            "no sheet refused by {number}"
+        );
+    }
+    assert!(statuses.contains(&1) && statuses.contains(&3));
+}
+
+#[test]
+fn a_folder_is_summed_up() {
+    let good = sonde(&["--batch", folder("good").to_str().unwrap()]);
+    assert_eq!(good.status.code(), Some(0));
+    let count = sheets("good").len();
+    let last = said(&good);
+    let last = last.lines().last().unwrap().to_string();
+    assert!(last.starts_with(&format!("{count} sheets: ")), "{last}");
+    let bad = sonde(&["--batch", folder("bad").to_str().unwrap(), "--json"]);
+    assert_eq!(bad.status.code(), Some(1));
+    assert_eq!(said(&bad).lines().count(), sheets("bad").len() + 1);
+    let none = sonde(&["--batch", folder("..").to_str().unwrap()]);
+    assert_eq!(none.status.code(), Some(2));
+}
+
+#[test]
+fn a_drawing_is_written() {
+    for path in sheets("good") {
+        let name = path.file_stem().unwrap().to_str().unwrap();
+        let file = Path::new(env!("CARGO_TARGET_TMPDIR")).join(format!("{name}.svg"));
+        let output = sonde(&[path.to_str().unwrap(), "--svg", file.to_str().unwrap()]);
+        assert_eq!(output.status.code(), Some(0));
+        let drawing = fs::read_to_string(&file).unwrap();
+        assert!(drawing.starts_with("<svg ") && drawing.ends_with("</svg>\n"));
+        assert!(drawing.contains("From above") && drawing.contains("From the side"));
+    }
+}
+
+#[test]
+fn what_cannot_be_used_is_told() {
+    assert_eq!(sonde(&[]).status.code(), Some(2));
+    assert_eq!(sonde(&["nowhere.sheet"]).status.code(), Some(2));
+    assert_eq!(sonde(&["--batch", "nowhere"]).status.code(), Some(2));
+    assert_eq!(sonde(&["--help"]).status.code(), Some(0));
+}
