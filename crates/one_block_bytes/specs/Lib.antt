@@ -1,2 +1,3 @@
 pub mod OneBlockCalls
 pub mod OneBlockLaws
+pub mod Numbers

@@ -19,7 +19,7 @@ oneBlockRows ns cs x slopes recordJoints recordLinks recordPoses =
     blockRow (joints cs) x ∷ roomRow (joints cs) slopes ∷ recordRows (entriesOf ns cs) recordJoints recordLinks recordPoses
 
 -- ---- laws
-record-rows : (n joints links poses : ℕ) → recordRefusal n joints links poses ≡ firstRow (recordRows n joints links poses)
+pub record-rows : (n joints links poses : ℕ) → recordRefusal n joints links poses ≡ firstRow (recordRows n joints links poses)
 unfolding recordRefusal
 record-rows n joints links poses =
     ap (λ (m : ℕ). firstOf (roomRefusal n joints) (firstOf (roomRefusal n links) m)) (room-alone (7 * n) poses)
