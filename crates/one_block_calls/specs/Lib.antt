@@ -1,2 +1,3 @@
 pub mod Room
 pub mod Rows
+pub mod Agree
