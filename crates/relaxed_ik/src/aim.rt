@@ -13,7 +13,7 @@ ghost use Rattle.calls.specs.Answer.{numberOf, answerValue, valueIf, answerOf};
 ghost use Rattle.relaxed_ik.specs.State.{floatsUsed};
 ghost use Rattle.relaxed_ik.specs.Aim.{Arrays, aimNumber, objectiveKept, slopesKept, givenKept};
 
-pub fn aim_refusal(loaded: bool, has_goals: bool, started: bool) -> u16
+pub(crate) fn aim_refusal(loaded: bool, has_goals: bool, started: bool) -> u16
     ensures { λ r. ⌜ r ≡ aimNumber loaded «has_goals» started ⌝ }
 {
     if !loaded {
@@ -28,7 +28,7 @@ pub fn aim_refusal(loaded: bool, has_goals: bool, started: bool) -> u16
     0
 }
 
-pub fn objective_on(
+pub(crate) fn objective_on(
     weights: &[f64],
     sizes: &[u16],
     codes: &[u16],
@@ -69,7 +69,7 @@ pub fn objective_on(
     )
 }
 
-pub fn gradient_on(
+pub(crate) fn gradient_on(
     weights: &[f64],
     sizes: &[u16],
     codes: &[u16],
@@ -116,7 +116,7 @@ pub fn gradient_on(
     )
 }
 
-pub fn gradient_finite_diff_on(
+pub(crate) fn gradient_finite_diff_on(
     weights: &[f64],
     sizes: &[u16],
     codes: &[u16],

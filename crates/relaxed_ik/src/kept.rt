@@ -14,7 +14,7 @@ ghost use Rattle.calls.specs.Answer.{numberOf, answerValue, valueIf, answerOf};
 ghost use Rattle.relaxed_ik.specs.State.{linksUsed};
 ghost use Rattle.relaxed_ik.specs.Kept.{framesKept, poseKept, blockKept, goalsKept, updateKept, manipulabilityKept, keptPose};
 
-pub fn frames_on(
+pub(crate) fn frames_on(
     sizes: &[u16],
     codes: &[u16],
     floats: &[f64],
@@ -46,7 +46,7 @@ pub fn frames_on(
     )
 }
 
-pub fn pose_on(
+pub(crate) fn pose_on(
     sizes: &[u16],
     codes: &[u16],
     floats: &[f64],
@@ -74,7 +74,7 @@ pub fn pose_on(
     )
 }
 
-pub fn block_on(sizes: &[u16], codes: &[u16], joints: &[f64]) -> u16
+pub(crate) fn block_on(sizes: &[u16], codes: &[u16], joints: &[f64]) -> u16
     requires { ⌜ (length (now sizes) ≡ 5) × (length (now codes) ≡ 64) ⌝ }
     ensures { λ r. ⌜ r ≡ blockKept (now (sizes .entry)) (now (codes .entry)) (now (joints .entry)) ⌝ }
 {
@@ -86,7 +86,7 @@ pub fn block_on(sizes: &[u16], codes: &[u16], joints: &[f64]) -> u16
     lent::block_refusal(chain::joint_number(&codes[..links], links), joints)
 }
 
-pub fn goals_on(sizes: &[u16], codes: &[u16], goals: &[f64]) -> u16
+pub(crate) fn goals_on(sizes: &[u16], codes: &[u16], goals: &[f64]) -> u16
     requires { ⌜ (length (now sizes) ≡ 5) × (length (now codes) ≡ 64) ⌝ }
     ensures { λ r. ⌜ r ≡ goalsKept (now (sizes .entry)) (now (codes .entry)) (now (goals .entry)) ⌝ }
 {
@@ -97,7 +97,7 @@ pub fn goals_on(sizes: &[u16], codes: &[u16], goals: &[f64]) -> u16
     lent::goals_refusal(n.chains, goals)
 }
 
-pub fn update_on(sizes: &[u16], codes: &[u16], started: bool, joints: &[f64]) -> u16
+pub(crate) fn update_on(sizes: &[u16], codes: &[u16], started: bool, joints: &[f64]) -> u16
     requires { ⌜ (length (now sizes) ≡ 5) × (length (now codes) ≡ 64) ⌝ }
     ensures { λ r. ⌜ r ≡ updateKept (now (sizes .entry)) (now (codes .entry)) started (now (joints .entry)) ⌝ }
 {
@@ -111,7 +111,12 @@ pub fn update_on(sizes: &[u16], codes: &[u16], started: bool, joints: &[f64]) ->
     block_on(sizes, codes, joints)
 }
 
-pub fn manipulability_on(sizes: &[u16], codes: &[u16], floats: &[f64], joints: &[f64]) -> Answer
+pub(crate) fn manipulability_on(
+    sizes: &[u16],
+    codes: &[u16],
+    floats: &[f64],
+    joints: &[f64],
+) -> Answer
     requires { ⌜ (length (now sizes) ≡ 5) × (length (now codes) ≡ 64) × (length (now floats) ≡ 448) ⌝ }
     ensures number { λ r. ⌜ numberOf r ≡ blockKept (now (sizes .entry)) (now (codes .entry)) (now (joints .entry)) ⌝ }
     ensures value { λ r. ⌜ answerValue r ≡ valueIf (numberOf r)
