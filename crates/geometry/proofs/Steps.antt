@@ -10,8 +10,8 @@ use lib.Ieee.{Float, lt, eq}
 use lib.ListN.{length, set, length-set}
 use borrow.Author.Tests.{lt-ltb, le-ltb, eq-eqb, ne-eqb}
 use Rattle.standins.specs.Num.{_⊖_, _⊗_, _⊘_, nought, absOf}
-use Rattle.geometry.specs.Matrix.{entry, matrixOf, largerOf, largestOf, pivotRowOf, otherRow, swapOf, swapCount, eliminatedOf, eliminateRowOf, eliminateOf, diagonalOf, signedOf, stepsOf}
-use Rattle.geometry.proofs.Tables.{same-or, below-or, length-matrix, entry-matrix, matrix-is, entry-set-same, entry-set-other, columnsOf, columns-ahead, columns-turn, length-columns}
+use Rattle.geometry.specs.Matrix.{entry, largerOf, largestOf, pivotRowOf, otherRow, swapOf, swapCount, eliminatedOf, eliminateRowOf, eliminateOf, diagonalOf, signedOf, stepsOf}
+use Rattle.geometry.proofs.Tables.{same-or, length-matrix, matrix-is, entry-set-same, entry-set-other, columnsOf, columns-ahead, columns-turn, length-columns, inRow, row-ahead, row-turn, rowsOf, rows-none, rows-ahead, rows-stay, rows-all, rows-turn}
 
 -- ---- the pivot's row
 pub largest-none : (m : List Float) (k : ℕ) → k ≡ largestOf m k (k + 1 - k - 1)
@@ -108,98 +108,50 @@ swap-turn m cur k p c hk hp hc e =
     at q = ap (λ (z : ℕ). entry m z c) q
 
 -- ---- row i loses, column by column
-abbrev pub lost : List Float → ℕ → ℕ → ℕ → ℕ → Float
-lost m k i r j = cond (eqb r i) (eliminatedOf m k r j) (entry m r j)
-
-pub lose-turn : (m cur : List Float) (k i c : ℕ) → k < 6 → i < 6 → c < 6 → cur ≡ columnsOf c (lost m k i) (entry m)
-    → set cur (6 * i + c) (entry cur i c ⊖ entry m i k ⊘ entry m k k ⊗ entry cur k c) ≡ columnsOf (c + 1) (lost m k i) (entry m)
+pub lose-turn : (m cur : List Float) (k i c : ℕ) → k < 6 → i < 6 → c < 6 → cur ≡ columnsOf c (inRow m (eliminatedOf m k) i) (entry m)
+    → set cur (6 * i + c) (entry cur i c ⊖ entry m i k ⊘ entry m k k ⊗ entry cur k c) ≡ columnsOf (c + 1) (inRow m (eliminatedOf m k) i) (entry m)
 unfolding eliminatedOf
-lose-turn m cur k i c hk hi hc e =
-    columns-turn (lost m k i) (entry m) c cur (set cur (6 * i + c) v) e (length-set cur (6 * i + c) v ∙ lc)
-    (λ r hr.
-    ⊎-elim
-    (λ (q : r ≡ i). ap (λ (z : ℕ). entry (set cur (6 * i + c) v) z c) q ∙ entry-set-same cur i c v lc hi hc ∙ value ∙ rw (eq-eqb r i q, q))
-    (λ (n : r ≡ i → ⊥). entry-set-other cur i c r c v (λ z. n (omega arith)) ∙ ahead r hr ∙ rw (ne-eqb r i n))
-    (same-or r i))
-    (λ r j hr hj n. entry-set-other cur i c r j v (λ z. n (omega arith)))
+lose-turn m cur k i c hk hi hc e = row-turn m (eliminatedOf m k) i c cur hc e v hi (rw (ahead i hi, ahead k hk))
   where
-    f : Float
-    f = entry m i k ⊘ entry m k k
-
     v : Float
-    v = entry cur i c ⊖ f ⊗ entry cur k c
-
-    lc : length cur ≡ 36
-    lc = ap length e ∙ length-columns (lost m k i) (entry m) c
+    v = entry cur i c ⊖ entry m i k ⊘ entry m k k ⊗ entry cur k c
 
     ahead : (r : ℕ) → r < 6 → entry cur r c ≡ entry m r c
-    ahead r hr = ap (λ (z : List Float). entry z r c) e ∙ columns-ahead (lost m k i) (entry m) c r c hr hc (omega arith)
+    ahead = row-ahead m (eliminatedOf m k) i c cur hc e
 
-    value : v ≡ entry m i c ⊖ f ⊗ entry m k c
-    value = ap (λ (z : Float). z ⊖ f ⊗ entry cur k c) (ahead i hi) ∙ ap (λ (z : Float). entry m i c ⊖ f ⊗ z) (ahead k hk)
-
--- ---- the rows below k lose, row by row: those before row i have
-unfoldable pub rowsOf : List Float → ℕ → ℕ → List Float
-rowsOf m k i = matrixOf (λ r j. cond (ltb r i) (cond (ltb k r) (eliminatedOf m k r j) (entry m r j)) (entry m r j))
+-- ---- the rows below k lose, row by row
+abbrev pub lost : List Float → ℕ → ℕ → ℕ → Float
+lost m k r j = cond (ltb k r) (eliminatedOf m k r j) (entry m r j)
 
 pub length-eliminate : (m : List Float) (k : ℕ) → length (eliminateOf m k) ≡ 36
 unfolding eliminateOf
-length-eliminate m k = length-matrix (λ i j. cond (ltb k i) (eliminatedOf m k i j) (entry m i j))
+length-eliminate m k = length-matrix (lost m k)
 
 module _ (m : List Float) (k : ℕ) where
-  abbrev row : ℕ → ℕ → ℕ → Float
-  row i r j = cond (ltb r i) (cond (ltb k r) (eliminatedOf m k r j) (entry m r j)) (entry m r j)
+  -- the rows up to k, the pivot's with them, stay
+  kept : (r j : ℕ) → r ≤ k → lost m k r j ≡ entry m r j
+  kept r j b = rw (le-ltb k r b)
 
-  pub length-rows : (i : ℕ) → length (rowsOf m k i) ≡ 36
-  unfolding rowsOf
-  length-rows i = length-matrix (row i)
+  pub lose-none : length m ≡ 36 → m ≡ rowsOf m (lost m k) (k + 1)
+  lose-none l = rows-none m (lost m k) (k + 1) l (λ r j b. kept r j (omega arith))
 
-  pub rows-none : length m ≡ 36 → m ≡ rowsOf m k (k + 1)
-  unfolding rowsOf
-  rows-none l =
-      matrix-is (row (k + 1)) m l
-      (λ r j hr hj.
-      ⊎-elim (λ (b : k < r). rw (le-ltb r (k + 1) (omega arith))) (λ (b : r ≤ k). rw (lt-ltb r (k + 1) (omega arith), le-ltb k r b)) (below-or k r))
-
-  pub rows-all : (i : ℕ) → 6 ≤ i → rowsOf m k i ≡ eliminateOf m k
-  unfolding rowsOf eliminateOf
-  rows-all i b =
-      matrix-is (λ r j. cond (ltb k r) (eliminatedOf m k r j) (entry m r j)) (matrixOf (row i)) (length-matrix (row i))
-      (λ r j hr hj. entry-matrix (row i) r j hr hj ∙ rw (lt-ltb r i (omega arith)))
-
-  -- the rows that the loop has not come to stay, and so does row k
-  rows-stay : (i r j : ℕ) → r < 6 → j < 6 → i ≤ r → entry (rowsOf m k i) r j ≡ entry m r j
-  unfolding rowsOf
-  rows-stay i r j hr hj b = entry-matrix (row i) r j hr hj ∙ rw (le-ltb r i b)
-
-  rows-pivot : (i j : ℕ) → k < 6 → j < 6 → entry (rowsOf m k i) k j ≡ entry m k j
-  unfolding rowsOf
-  rows-pivot i j hk hj =
-      entry-matrix (row i) k j hk hj
-      ∙ ⊎-elim (λ (b : k < i). rw (lt-ltb k i b, le-ltb k k (omega arith))) (λ (b : i ≤ k). rw (le-ltb k i b)) (below-or k i)
-
-  lost-same : (i j : ℕ) → k < i → i < 6 → j < 6 → eliminatedOf (rowsOf m k i) k i j ≡ eliminatedOf m k i j
+  lost-same : (i j : ℕ) → k < i → i < 6 → j < 6 → eliminatedOf (rowsOf m (lost m k) i) k i j ≡ lost m k i j
   unfolding eliminatedOf
-  lost-same i j hk hi hj =
-      rw (rows-stay i i j hi hj (omega arith), rows-stay i i k hi (omega arith) (omega arith), rows-pivot i k (omega arith) (omega arith), rows-pivot i j (omega arith) hj)
+  lost-same i j hk hi hj = rw (lt-ltb k i hk, stay j hj, stay k (omega arith), pivot k (omega arith), pivot j hj)
+    where
+      stay : (j : ℕ) → j < 6 → entry (rowsOf m (lost m k) i) i j ≡ entry m i j
+      stay j hj = rows-ahead m (lost m k) i i j hi hj (omega arith)
 
-  pub rows-turn : (i : ℕ) → k < i → i < 6 → eliminateRowOf (rowsOf m k i) k i ≡ rowsOf m k (i + 1)
-  unfolding rowsOf eliminateRowOf
-  rows-turn i hk hi =
-      let cur : List Float = rowsOf m k i in
-      matrix-is (row (i + 1)) (matrixOf (lost cur k i)) (length-matrix (lost cur k i))
-      (λ r j hr hj.
-      entry-matrix (lost cur k i) r j hr hj
-      ∙ ⊎-elim
-      (λ (q : r ≡ i). rw (eq-eqb r i q, q, lt-ltb i (i + 1) (omega arith), lt-ltb k i hk) (lost-same i j hk hi hj))
-      (λ (n : r ≡ i → ⊥).
-      rw (ne-eqb r i n)
-      (entry-matrix (row i) r j hr hj
-      ∙ ⊎-elim
-      (λ (b : r < i). rw (lt-ltb r i b, lt-ltb r (i + 1) (omega arith)))
-      (λ (b : i ≤ r). rw (le-ltb r i b, le-ltb r (i + 1) (omega arith)))
-      (below-or r i)))
-      (same-or r i))
+      pivot : (j : ℕ) → j < 6 → entry (rowsOf m (lost m k) i) k j ≡ entry m k j
+      pivot j hj = rows-stay m (lost m k) i k j (omega arith) hj (kept k j (omega arith))
+
+  pub lose-row : (i : ℕ) → k < i → i < 6 → eliminateRowOf (rowsOf m (lost m k) i) k i ≡ rowsOf m (lost m k) (i + 1)
+  unfolding eliminateRowOf
+  lose-row i hk hi = rows-turn m (lost m k) (eliminatedOf (rowsOf m (lost m k) i) k) i hi (λ j hj. lost-same i j hk hi hj)
+
+  pub lose-all : (i : ℕ) → 6 ≤ i → rowsOf m (lost m k) i ≡ eliminateOf m k
+  unfolding eliminateOf
+  lose-all i b = rows-all m (lost m k) i b
 
 -- ---- what is left from column k on
 pub count-most : (k p : ℕ) → swapCount k p ≤ 1

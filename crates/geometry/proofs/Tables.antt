@@ -1,4 +1,4 @@
--- Laws of tables and matrices: what stands in them, when two are the same, and one turn of a loop that rewrites a matrix column by column.
+-- Laws of tables and matrices: what stands in them, when two are the same, and one turn of a loop that rewrites a matrix column by column or row by row.
 use mathlib.Core.Path.{_≡_, refl, sym, ap, _∙_}
 use mathlib.Core.Bool.{Bool, true, false, cond}
 use mathlib.Core.Logic.{_⊎_, inl, inr, ⊎-elim}
@@ -8,10 +8,9 @@ use native.Mathlib.Nat.{eq-or-lt-of-le}
 use native.Mathlib.Omega.{arith}
 use lib.Dec.{eqb, ltb}
 use lib.Ieee.{Float, nan}
-use lib.ListN.{length, getD, set, length-append, List·getD-append}
+use lib.ListN.{length, getD, set, length-set, length-append, List·getD-append}
 use lib.Seq.{getD-at, getD-set-same, getD-set-other, ext-getD}
-use borrow.Author.Count.{below-more}
-use borrow.Author.Tests.{lt-ltb, le-ltb, ltb-true, ltb-false, eqb-true, eqb-false}
+use borrow.Author.Tests.{lt-ltb, le-ltb, eq-eqb, ne-eqb, ltb-true, ltb-false, eqb-true, eqb-false}
 use Rattle.geometry.specs.Matrix.{table, entry, matrixOf}
 
 -- ---- cases
@@ -49,14 +48,6 @@ table-is f n xs l e =
     ext-getD nan xs (table f n) (l ∙ sym (length-table f n))
     (λ i h. let b : i < n = omega arith in e i b ∙ sym (getD-table f n i b))
 
--- one turn of a loop that fills a table in order
-pub fill-turn : (f : ℕ → Float) (xs : List Float) (n : ℕ) (v : Float) → n < length xs → ((i : ℕ) → i < n → getD xs i nan ≡ f i) → v ≡ f n
-    → (i : ℕ) → i < n + 1 → getD (set xs n v) i nan ≡ f i
-fill-turn f xs n v h e q =
-    below-more (λ (i : ℕ). getD (set xs n v) i nan ≡ f i) n
-    (λ i l. getD-set-other xs n i v nan (λ z. omega arith) ∙ e i l)
-    (getD-set-same xs n v nan h ∙ q)
-
 -- ---- matrices
 pub length-matrix : (f : ℕ → ℕ → Float) → length (matrixOf f) ≡ 36
 unfolding matrixOf
@@ -75,6 +66,9 @@ matrix-is f m l e =
     table-is (λ n. f (n / 6) (n % 6)) 36 m l
     (λ n h. let d : n ≡ 6 * (n / 6) + n % 6 = omega arith in
     ap (λ (z : ℕ). getD m z nan) d ∙ e (n / 6) (n % 6) (omega arith) (omega arith))
+
+pub matrix-same : (f g : ℕ → ℕ → Float) → ((i j : ℕ) → i < 6 → j < 6 → f i j ≡ g i j) → matrixOf f ≡ matrixOf g
+matrix-same f g e = matrix-is g (matrixOf f) (length-matrix f) (λ i j hi hj. entry-matrix f i j hi hj ∙ e i j hi hj)
 
 pub entry-set-same : (m : List Float) (i j : ℕ) (v : Float) → length m ≡ 36 → i < 6 → j < 6 → entry (set m (6 * i + j) v) i j ≡ v
 entry-set-same m i j v l hi hj = getD-set-same m (6 * i + j) v nan (omega arith)
@@ -133,3 +127,75 @@ module _ (g h : ℕ → ℕ → Float) where
           (λ (b : c ≤ j). old i j hi hj ne ∙ columns-ahead c i j hi hj b ∙ rw (le-ltb j (c + 1) (omega arith)))
           (below-or j c))
           (same-or j c)
+
+-- ---- one row that a loop rewrites column by column: row i is g's, the others are m's
+abbrev pub inRow : List Float → (ℕ → ℕ → Float) → ℕ → ℕ → ℕ → Float
+inRow m g i r j = cond (eqb r i) (g r j) (entry m r j)
+
+module _ (m : List Float) (g : ℕ → ℕ → Float) (i c : ℕ) (cur : List Float) (hc : c < 6) (e : cur ≡ columnsOf c (inRow m g i) (entry m)) where
+  -- column c is still m's
+  pub row-ahead : (r : ℕ) → r < 6 → entry cur r c ≡ entry m r c
+  row-ahead r hr = ap (λ (z : List Float). entry z r c) e ∙ columns-ahead (inRow m g i) (entry m) c r c hr hc (omega arith)
+
+  -- one turn: row i's entry in column c is now g's
+  pub row-turn : (v : Float) → i < 6 → v ≡ g i c → set cur (6 * i + c) v ≡ columnsOf (c + 1) (inRow m g i) (entry m)
+  row-turn v hi value =
+      columns-turn (inRow m g i) (entry m) c cur (set cur (6 * i + c) v) e (length-set cur (6 * i + c) v ∙ lc)
+      (λ r hr.
+      ⊎-elim
+      (λ (q : r ≡ i). ap (λ (z : ℕ). entry (set cur (6 * i + c) v) z c) q ∙ entry-set-same cur i c v lc hi hc ∙ value ∙ rw (eq-eqb r i q, q))
+      (λ (n : r ≡ i → ⊥). entry-set-other cur i c r c v (λ z. n (omega arith)) ∙ row-ahead r hr ∙ rw (ne-eqb r i n))
+      (same-or r i))
+      (λ r j hr hj n. entry-set-other cur i c r j v (λ z. n (omega arith)))
+    where
+      lc : length cur ≡ 36
+      lc = ap length e ∙ length-columns (inRow m g i) (entry m) c
+
+-- ---- a matrix that a loop rewrites row by row: g in the rows before i, m's in the others
+unfoldable pub rowsOf : List Float → (ℕ → ℕ → Float) → ℕ → List Float
+rowsOf m g i = matrixOf (λ r j. cond (ltb r i) (g r j) (entry m r j))
+
+module _ (m : List Float) (g : ℕ → ℕ → Float) where
+  abbrev before : ℕ → ℕ → ℕ → Float
+  before i r j = cond (ltb r i) (g r j) (entry m r j)
+
+  pub length-rows : (i : ℕ) → length (rowsOf m g i) ≡ 36
+  unfolding rowsOf
+  length-rows i = length-matrix (before i)
+
+  -- a row that the loop has not come to stays, and so does one that is g's already
+  pub rows-ahead : (i r j : ℕ) → r < 6 → j < 6 → i ≤ r → entry (rowsOf m g i) r j ≡ entry m r j
+  unfolding rowsOf
+  rows-ahead i r j hr hj b = entry-matrix (before i) r j hr hj ∙ rw (le-ltb r i b)
+
+  pub rows-stay : (i r j : ℕ) → r < 6 → j < 6 → g r j ≡ entry m r j → entry (rowsOf m g i) r j ≡ entry m r j
+  unfolding rowsOf
+  rows-stay i r j hr hj e =
+      entry-matrix (before i) r j hr hj ∙ ⊎-elim (λ (b : r < i). rw (lt-ltb r i b) e) (λ (b : i ≤ r). rw (le-ltb r i b)) (below-or r i)
+
+  pub rows-none : (i : ℕ) → length m ≡ 36 → ((r j : ℕ) → r < i → g r j ≡ entry m r j) → m ≡ rowsOf m g i
+  unfolding rowsOf
+  rows-none i l e =
+      matrix-is (before i) m l
+      (λ r j hr hj. ⊎-elim (λ (b : r < i). rw (lt-ltb r i b) (sym (e r j b))) (λ (b : i ≤ r). rw (le-ltb r i b)) (below-or r i))
+
+  pub rows-all : (i : ℕ) → 6 ≤ i → rowsOf m g i ≡ matrixOf g
+  unfolding rowsOf
+  rows-all i b = matrix-same (before i) g (λ r j hr hj. rw (lt-ltb r i (omega arith)))
+
+  -- one turn: row i is now g's
+  pub rows-turn : (f : ℕ → ℕ → Float) (i : ℕ) → i < 6 → ((j : ℕ) → j < 6 → f i j ≡ g i j) → matrixOf (inRow (rowsOf m g i) f i) ≡ rowsOf m g (i + 1)
+  unfolding rowsOf
+  rows-turn f i hi e =
+      matrix-same (inRow (rowsOf m g i) f i) (before (i + 1))
+      (λ r j hr hj.
+      ⊎-elim
+      (λ (q : r ≡ i). rw (eq-eqb r i q, q, lt-ltb i (i + 1) (omega arith)) (e j hj))
+      (λ (n : r ≡ i → ⊥).
+      rw (ne-eqb r i n)
+      (entry-matrix (before i) r j hr hj
+      ∙ ⊎-elim
+      (λ (b : r < i). rw (lt-ltb r i b, lt-ltb r (i + 1) (omega arith)))
+      (λ (b : i ≤ r). rw (le-ltb r i b, le-ltb r (i + 1) (omega arith)))
+      (below-or r i)))
+      (same-or r i))

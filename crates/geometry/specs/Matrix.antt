@@ -93,3 +93,17 @@ sumOf js r s = sumTo js r s (length js / 6)
 -- J·Jᵀ
 unfoldable pub gramOf : List Float → List Float
 gramOf js = matrixOf (sumOf js)
+
+-- ---- its sums, column after column: what the code's loops leave
+
+-- row r's entry in column s of m, plus column c's (row r's entry)·(row s's entry)
+unfoldable pub addedOf : List Float → List Float → ℕ → ℕ → ℕ → Float
+addedOf m js c r s = entry m r s ⊕ getD js (6 * c + r) nan ⊗ getD js (6 * c + s) nan
+
+-- row r gains
+unfoldable pub addRowOf : List Float → List Float → ℕ → ℕ → List Float
+addRowOf m js c r = matrixOf (λ i s. cond (eqb i r) (addedOf m js c i s) (entry m i s))
+
+-- each row gains
+unfoldable pub addColumnOf : List Float → List Float → ℕ → List Float
+addColumnOf m js c = matrixOf (addedOf m js c)

@@ -1,16 +1,28 @@
 // Matrices of six rows of six: the determinant, and the product of a matrix with its own transpose.
-use standins::cut;
 ghost use mathlib.Core.Path.{_≡_};
-ghost use Prim.Native.Nat.{_<_};
+ghost use Prim.Native.Nat.{_/_, _<_};
 ghost use lib.ListN.{length};
-ghost use Rattle.geometry.specs.Matrix.{largerOf, pivotRowOf, swapOf, swapCount, eliminateRowOf, eliminateOf, diagonalOf, determinantOf, sumOf, gramOf};
+ghost use Rattle.geometry.specs.Size.{sizeOf};
+ghost use Rattle.geometry.specs.Matrix.{largerOf, pivotRowOf, swapOf, swapCount, eliminateRowOf, eliminateOf, diagonalOf, determinantOf, addRowOf, addColumnOf, gramOf};
+
+// The larger of x and -x: the absolute value but for the sign of a zero, which no comparison sees.
+// One instruction, where a test of the sign is a branch that is often guessed wrong.
+fn size(x: f64) -> f64
+    ensures { λ r. ⌜ r ≡ sizeOf x ⌝ }
+{
+    let n = -x;
+    if n > x {
+        return n;
+    }
+    x
+}
 
 // Of rows p and i the one with the larger absolute value in column k, p on a tie.
 fn larger(m: &[f64; 36], k: usize, p: usize, i: usize) -> usize
     requires { ⌜ (k < 6) × (p < 6) × (i < 6) ⌝ }
     ensures { λ r. ⌜ r ≡ largerOf (now (m .entry)) k p i ⌝ }
 {
-    if cut::abs(m[6 * p + k]) < cut::abs(m[6 * i + k]) {
+    if size(m[6 * p + k]) < size(m[6 * i + k]) {
         return i;
     }
     p
@@ -105,30 +117,40 @@ pub fn determinant(m: [f64; 36]) -> f64
     d
 }
 
-// The product's entry in row r and column s.
-fn product_entry(j: &[f64], r: usize, s: usize) -> f64
-    requires { ⌜ (r < 6) × (s < 6) ⌝ }
-    ensures { λ x. ⌜ x ≡ sumOf (now (j .entry)) r s ⌝ }
+// Adds to row r the column c times its own entry in that row.
+fn add_row(m: &mut [f64; 36], j: &[f64], c: usize, r: usize)
+    requires { ⌜ (c < length (now j) / 6) × (r < 6) × (length (now m) ≡ 36) ⌝ }
+    ensures { λ _. ⌜ now (m .exit) ≡ addRowOf (now (m .entry)) (now (j .entry)) c r ⌝ }
 {
-    let n = j.len() / 6;
-    let mut sum = 0.0;
-    let mut c = 0;
-    while c < n {
-        sum = sum + j[6 * c + r] * j[6 * c + s];
-        c += 1;
+    let x = j[6 * c + r];
+    let mut s = 0;
+    while s < 6 {
+        m[6 * r + s] = m[6 * r + s] + x * j[6 * c + s];
+        s += 1;
     }
-    sum
+}
+
+fn add_column(m: &mut [f64; 36], j: &[f64], c: usize)
+    requires { ⌜ (c < length (now j) / 6) × (length (now m) ≡ 36) ⌝ }
+    ensures { λ _. ⌜ now (m .exit) ≡ addColumnOf (now (m .entry)) (now (j .entry)) c ⌝ }
+{
+    let mut r = 0;
+    while r < 6 {
+        add_row(m, j, c, r);
+        r += 1;
+    }
 }
 
 // J times its transpose, J given by columns of six.
 pub fn gram(j: &[f64]) -> [f64; 36]
     ensures { λ r. ⌜ r ≡ gramOf (now (j .entry)) ⌝ }
 {
+    let n = j.len() / 6;
     let mut m = [0.0; 36];
-    let mut n = 0;
-    while n < 36 {
-        m[n] = product_entry(j, n / 6, n % 6);
-        n += 1;
+    let mut c = 0;
+    while c < n {
+        add_column(&mut m, j, c);
+        c += 1;
     }
     m
 }

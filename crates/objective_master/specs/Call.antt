@@ -9,7 +9,6 @@ use lib.Ieee.{Float}
 use lib.ListN.{length, take}
 use Rattle.geometry.specs.declared.pose.Pose.{Pose}
 use Rattle.lists.specs.Splice.{splice, part-splice}
-use Rattle.sheet.specs.Chain.{total}
 use Rattle.spacetime.specs.Floats.{poseAt}
 use Rattle.spacetime.specs.Walk.{poseIf, listPose}
 use Rattle.spacetime.specs.Frames.{Chains}
@@ -27,11 +26,7 @@ objectiveOf ws g P x = weightedOf ws (objectivesOf g) (lossesOf g P x)
 abbrev pub TwoJoints : List ℕ → List ℕ → Type 0
 TwoJoints ns cs = (c : ℕ) → c < length ns → 2 ≤ chainLength ns cs c
 
--- ---- laws: it looks at no link past the last chain
-pub objective-ext : (ws : List Float) (g : Given) (P Q : ℕ → Pose) (x : List Float) → Chains (g .sizes) → Paired (g .sizes) (g .codes)
-    → ((l : ℕ) → l < total (g .sizes) → P l ≡ Q l) → objectiveOf ws g P x ≡ objectiveOf ws g Q x
-unfolding objectiveOf
-objective-ext ws g P Q x chains paired same = ap (weightedOf ws (objectivesOf g)) (losses-ext g P Q x chains paired same)
+-- ---- laws
 
 -- the same list as base and tail of a view
 view-same : (r : List Float) (n l : ℕ) → viewOf r r 0 n l ≡ listPose r l

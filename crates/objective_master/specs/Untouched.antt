@@ -4,13 +4,11 @@ use mathlib.Core.Bool.{Bool, true, false, true≢false}
 use mathlib.Core.Logic.{⊎-elim}
 use mathlib.Core.List.{List, [], _∷_, map}
 use Prim.Native.Nat.{ℕ, suc, _+_, _-_, _*_, _≤_, _<_}
-use native.Mathlib.Nat.{zero-add}
 use native.Mathlib.Omega.{arith}
 use lib.Ieee.{Float, nan}
 use lib.ListN.{length, getD, length-map, List·getD-eq-default}
 use borrow.Author.Tests.{lt-ltb, le-leb, lt-leb, leb-false, eq-eqb}
 use Rattle.geometry.specs.declared.pose.Pose.{Pose}
-use Rattle.lists.specs.Splice.{splice, length-splice, getD-splice-in}
 use Rattle.sheet.specs.Chain.{total, chainStart, below-or}
 use Rattle.spacetime.specs.Frames.{endOf, Chains, chain-within}
 use Rattle.manipulability.specs.Jacobian.{manipulability-ext}
@@ -18,7 +16,7 @@ use Rattle.groove.specs.Loss.{noNumber, maximizeManipulability, eachJointLimits
 use Rattle.self_collision.specs.Pairs.{pair, chainLengths, pairLoss, Paired, lengths-count, lengths-at, arm-fits}
 use Rattle.self_collision.specs.Skip.{skipped}
 use Rattle.objective_master.specs.Objective.{Objective, MinimizeVelocity, objectives}
-use Rattle.objective_master.specs.Losses.{Given, offLoss, turnLoss, limitLoss, lossOf, lossesOf, objectivesOf, losses-many}
+use Rattle.objective_master.specs.Losses.{Given, offLoss, turnLoss, limitLoss, lossOf, lossesOf, objectivesOf}
 use Rattle.objective_master.specs.Standing.{walkedAgain, endAgain, isRaised, touched, Standing, map-at}
 use Rattle.objective_master.specs.Every.{objectives-each}
 
@@ -96,15 +94,6 @@ module _ (g : Given) (P Q : ℕ → Pose) (x y : List Float) (from to joint : �
             absurd (true≢false (sym (List·getD-eq-default (map T os) true (omega (arith, length-map os T))) ∙ q)))
             (below-or i (length os));
       }
-
-  -- written to the front of a list, too
-  pub standing-written : (out : List Float) → length os ≤ length out → Standing g Q y from to joint (splice out 0 (lossesOf g P x))
-  standing-written out room =
-      let n : length (lossesOf g P x) ≡ length os = losses-many g P x in
-      let m : length (splice out 0 (lossesOf g P x)) ≡ length out = length-splice out 0 (lossesOf g P x) (omega arith) in
-      standing-again (splice out 0 (lossesOf g P x)) (omega arith)
-      (λ i l.
-      ap (λ (k : ℕ). getD (splice out 0 (lossesOf g P x)) k nan) (sym (zero-add i)) ∙ getD-splice-in out 0 (lossesOf g P x) i nan (omega arith) (omega arith))
 
 -- ---- the losses look at no link past the last chain
 map-same : (h k : Objective → Float) (os : List Objective) → ((i : ℕ) → i < length os → h (getD os i MinimizeVelocity) ≡ k (getD os i MinimizeVelocity)) → map h os ≡ map k os

@@ -6,17 +6,12 @@ use mathlib.Core.List.{List, [], _∷_, _++_, map}
 use Prim.Native.Nat.{ℕ, zero, suc, _+_, _-_, _*_, _≤_, _<_}
 use native.Mathlib.Omega.{arith}
 use lib.Ieee.{Float, nan}
-use lib.ListN.{length, getD, length-append, length-map, List·getD-append}
+use lib.ListN.{length, getD, length-append, List·getD-append}
 use lib.Seq.{getD-append-add}
-use Rattle.lists.specs.Splice.{splice, length-splice, getD-splice-in}
 use Rattle.lists.specs.Runs.{runs, getD-runs}
 use Rattle.geometry.specs.declared.pose.Pose.{Pose}
 use Rattle.sheet.specs.Chain.{chainStart, below-or}
-use Rattle.self_collision.specs.Pairs.{Pair, pair, pairAt, pairsFrom, pairsOf, chainPairs, allPairs, chainLengths, pointOn, gapOf, lossFrom, pairLoss, pairLosses, Paired, Standing, row-length, lengths-count, lengths-at, arm-fits}
-
--- with nothing skipped, room is all that is asked
-pub standing-none : (loss : Pair → Float) (at : ℕ) (ps : List Pair) (out : List Float) → at + length ps ≤ length out → Standing loss 0 at ps out
-standing-none loss at ps out h = record { room = h; stands = λ i b q. absurd (omega arith) }
+use Rattle.self_collision.specs.Pairs.{Pair, pair, pairAt, pairsFrom, pairsOf, chainPairs, allPairs, chainLengths, pointOn, gapOf, lossFrom, pairLoss, pairLosses, Paired, row-length, lengths-count, lengths-at, arm-fits}
 
 -- ---- what holds of every pair: its links are j + 2 ≤ k, and k is below the joints of its chain
 module _ (Q : Pair → Type 0) where
@@ -87,22 +82,6 @@ module _ (ns : List ℕ) (P Q : ℕ → Pose) (b : Bool) (from : ℕ) (same : (l
   pub skipped : (p : Pair) → p .first < p .second → p .second < from → pairLoss ns P 0 b p ≡ pairLoss ns Q 0 b p
   unfolding pairLoss chainStart
   skipped p h k = loss-ext P Q 0 b p h (λ l m. same l (omega arith))
-
-  -- so the losses of the one walk stand for the other
-  pub losses-stand : (lens : List ℕ) (at : ℕ) (out : List Float) → at + length (allPairs lens) ≤ length out
-      → Standing (pairLoss ns Q 0 b) from at (allPairs lens) (splice out at (pairLosses ns P lens b))
-  unfolding pairLosses
-  losses-stand lens at out h =
-      let ps : List Pair = allPairs lens in
-      let ys : List Float = map (pairLoss ns P 0 b) ps in
-      let n : length ys ≡ length ps = length-map ps (pairLoss ns P 0 b) in
-      let same-length : length (splice out at ys) ≡ length out = length-splice out at ys (omega arith) in
-      record {
-        room = omega arith;
-        stands = λ i k q.
-            getD-splice-in out at ys i nan (omega arith) (omega arith) ∙ map-at (pairLoss ns P 0 b) ps i k
-            ∙ skipped (getD ps i (pair 0 0)) (pairs-ordered lens i k) q;
-      }
 
 -- the losses look at no link past the last chain
 pub losses-ext : (ns cs : List ℕ) (P Q : ℕ → Pose) (b : Bool) → Paired ns cs → ((l : ℕ) → l < length cs → P l ≡ Q l)

@@ -1,8 +1,8 @@
 -- The link step of arm.rs: the pose after a link, from the pose before it.
-use mathlib.Core.Bool.{Bool, true, false, cond}
+use mathlib.Core.Bool.{Bool, true, false, cond, _&&_}
 use Prim.Native.Nat.{ℕ, _%_}
 use lib.Dec.{eqb, ltb}
-use lib.Ieee.{Float, neg, ne}
+use lib.Ieee.{Float, neg, eq}
 use Rattle.standins.specs.Num.{nought}
 use Rattle.geometry.specs.declared.vector.Vec3.{Vec3}
 use Rattle.geometry.specs.declared.quaternion.Quat.{Quat}
@@ -20,13 +20,13 @@ abbrev pub quatIf : Bool → Quat → Quat → Quat
 quatIf true a b = a
 quatIf false a b = b
 
--- an offset whose i, j, k are all 0 is skipped, w = -1 included
+-- an offset whose i, j, k are all 0 turns nothing, w = -1 included
+unfoldable pub isNone : Quat → Bool
+isNone o = eq (o .i) nought && eq (o .j) nought && eq (o .k) nought
+
+-- it is skipped
 unfoldable pub offsetOf : Quat → Quat → Quat
-offsetOf q o =
-    quatIf (ne (o .i) nought) (productOf q o)
-    (quatIf (ne (o .j) nought) (productOf q o)
-    (quatIf (ne (o .k) nought) (productOf q o)
-    q))
+offsetOf q o = quatIf (isNone o) q (productOf q o)
 
 -- a joint's value along its axis: axes 4 to 6 are the negatives
 unfoldable pub signedBy : ℕ → Float → Float
@@ -46,13 +46,6 @@ turnOf a v =
     (quatIf (eqb (a % 3) 2) (quatYOf (signedBy a v))
     (quatZOf (signedBy a v)))
 
--- axis none does not turn
-unfoldable pub turnedBy : Quat → ℕ → Quat → Quat
-turnedBy q a t = quatIf (eqb a 0) q (productOf q t)
-
-unfoldable pub turnedOf : Quat → ℕ → Float → Quat
-turnedOf q a v = turnedBy q a (turnOf a v)
-
 -- a joint's turn at v; a link that does not turn has none to add
 unfoldable pub jointTurn : Kind → Float → Quat
 jointTurn Fixed v = identityOf
@@ -60,17 +53,32 @@ jointTurn Unlisted v = identityOf
 jointTurn (Turning a) v = turnOf a v
 jointTurn (Sliding a) v = identityOf
 
+-- axis none does not turn
+unfoldable pub aboutOf : ℕ → Quat → Quat → Quat
+aboutOf a q t = quatIf (eqb a 0) q (productOf q t)
+
+-- q turned by the turn t of a link's joint: only a revolute or continuous one turns
+unfoldable pub turnedBy : Kind → Quat → Quat → Quat
+turnedBy Fixed q t = q
+turnedBy Unlisted q t = q
+turnedBy (Turning a) q t = aboutOf a q t
+turnedBy (Sliding a) q t = q
+
 -- the point moved by the displacement, as the pose turns it
 unfoldable pub carriedOf : Pose → Vec3 → Vec3
 carriedOf p d = addOf (rotateOf (p .rotation) d) (p .position)
 
--- a prismatic joint moves along the base's axis, unrotated; with axis none its displacement is not added either
-unfoldable pub slidOf : Pose → Vec3 → ℕ → Float → Vec3
-slidOf p d a v = vecIf (eqb a 0) (p .position) (addOf (carriedOf p d) (alongOf a v))
+-- a prismatic joint moves along the base's axis, unrotated, from where the displacement carries it; with axis none it stays at the point before
+unfoldable pub slidOf : Vec3 → Vec3 → ℕ → Float → Vec3
+slidOf before carried a v = vecIf (eqb a 0) before (addOf carried (alongOf a v))
+
+-- the position after a link of displacement d, its joint at v
+unfoldable pub movedOf : Kind → Pose → Vec3 → Float → Vec3
+movedOf Fixed p d v = carriedOf p d
+movedOf Unlisted p d v = carriedOf p d
+movedOf (Turning a) p d v = carriedOf p d
+movedOf (Sliding a) p d v = slidOf (p .position) (carriedOf p d) a v
 
 -- the pose after a link of displacement d and offset o, its joint at v
 unfoldable pub linkOf : Kind → Vec3 → Quat → Float → Pose → Pose
-linkOf Fixed d o v p = record { position = carriedOf p d; rotation = offsetOf (p .rotation) o }
-linkOf Unlisted d o v p = record { position = carriedOf p d; rotation = offsetOf (p .rotation) o }
-linkOf (Turning a) d o v p = record { position = carriedOf p d; rotation = turnedOf (offsetOf (p .rotation) o) a v }
-linkOf (Sliding a) d o v p = record { position = slidOf p d a v; rotation = offsetOf (p .rotation) o }
+linkOf kind d o v p = record { position = movedOf kind p d v; rotation = turnedBy kind (offsetOf (p .rotation) o) (jointTurn kind v) }

@@ -15,24 +15,31 @@ ghost use Prim.Native.Nat.{_+_, _*_, _≤_, _<_};
 ghost use lib.ListN.{length, getD};
 ghost use Rattle.lists.specs.Splice.{splice};
 ghost use Rattle.sheet.specs.Chain.{jointsOf, joints};
-ghost use Rattle.spacetime.specs.Floats.{vecAt, quatAt};
-ghost use Rattle.spacetime.specs.Link.{offsetOf, signedBy, alongOf, turnOf, jointTurn, turnedBy, carriedOf, slidOf, linkOf};
+ghost use Rattle.spacetime.specs.Floats.{quatAt};
+ghost use Rattle.spacetime.specs.Link.{isNone, offsetOf, signedBy, alongOf, turnOf, jointTurn, aboutOf, turnedBy, carriedOf, slidOf, movedOf, linkOf};
 ghost use Rattle.spacetime.specs.Walk.{valueOf, afterLink, startOf, Sheet, framesOf};
-ghost use Rattle.spacetime.specs.Turns.{turnAt, turnsOf, Turned};
+ghost use Rattle.spacetime.specs.Turns.{turnsOf, startTurn, afterTurn, rotationsBy, Rotated};
+
+// An offset that turns nothing.
+fn is_none(o: Quat) -> bool
+    ensures { λ r. ⌜ r ≡ isNone o ⌝ }
+{
+    if o.i != 0.0 {
+        return false;
+    }
+    if o.j != 0.0 {
+        return false;
+    }
+    o.k == 0.0
+}
 
 fn offset(q: Quat, o: Quat) -> Quat
     ensures { λ r. ⌜ r ≡ offsetOf q o ⌝ }
 {
-    if o.i != 0.0 {
-        return quaternion::product(q, o);
+    if is_none(o) {
+        return q;
     }
-    if o.j != 0.0 {
-        return quaternion::product(q, o);
-    }
-    if o.k != 0.0 {
-        return quaternion::product(q, o);
-    }
-    q
+    quaternion::product(q, o)
 }
 
 fn signed(axis: u16, v: f64) -> f64
@@ -98,13 +105,25 @@ fn joint_turn(kind: Kind, v: f64) -> Quat
 }
 
 // q turned by t, unless the axis is none.
-fn turned(q: Quat, axis: u16, t: Quat) -> Quat
-    ensures { λ r. ⌜ r ≡ turnedBy q axis t ⌝ }
+fn about(axis: u16, q: Quat, t: Quat) -> Quat
+    ensures { λ r. ⌜ r ≡ aboutOf axis q t ⌝ }
 {
     if axis == 0 {
         return q;
     }
     quaternion::product(q, t)
+}
+
+// q turned by its joint's turn t, if the link turns.
+fn turned(kind: Kind, q: Quat, t: Quat) -> Quat
+    ensures { λ r. ⌜ r ≡ turnedBy kind q t ⌝ }
+{
+    match kind {
+        Kind::Turning(axis) => about(axis, q, t),
+        Kind::Sliding(_) => q,
+        Kind::Fixed => q,
+        Kind::Unlisted => q,
+    }
 }
 
 fn carried(p: Pose, d: Vec3) -> Vec3
@@ -115,13 +134,26 @@ fn carried(p: Pose, d: Vec3) -> Vec3
     vector::add(quaternion::rotate(q, d), at)
 }
 
-fn slid(p: Pose, d: Vec3, axis: u16, v: f64) -> Vec3
-    ensures { λ r. ⌜ r ≡ slidOf p d axis v ⌝ }
+fn slid(before: Vec3, carried: Vec3, axis: u16, v: f64) -> Vec3
+    ensures { λ r. ⌜ r ≡ slidOf before carried axis v ⌝ }
 {
     if axis == 0 {
-        return p.position;
+        return before;
     }
-    vector::add(carried(p, d), along(axis, v))
+    vector::add(carried, along(axis, v))
+}
+
+// The position after a link. Every kind but a slide with axis none is carried, so that is worked out first, and stands in the code once.
+fn moved(kind: Kind, p: Pose, d: Vec3, v: f64) -> Vec3
+    ensures { λ r. ⌜ r ≡ movedOf kind p d v ⌝ }
+{
+    let c = carried(p, d);
+    match kind {
+        Kind::Turning(_) => c,
+        Kind::Sliding(axis) => slid(p.position, c, axis, v),
+        Kind::Fixed => c,
+        Kind::Unlisted => c,
+    }
 }
 
 // The pose after a link of displacement d and offset o, its joint at v and turned by t.
@@ -129,24 +161,9 @@ fn link(kind: Kind, d: Vec3, o: Quat, v: f64, t: Quat, p: Pose) -> Pose
     requires { ⌜ t ≡ jointTurn kind v ⌝ }
     ensures { λ r. ⌜ r ≡ linkOf kind d o v p ⌝ }
 {
-    let q = offset(p.rotation, o);
-    match kind {
-        Kind::Turning(axis) => Pose {
-            position: carried(p, d),
-            rotation: turned(q, axis, t),
-        },
-        Kind::Sliding(axis) => Pose {
-            position: slid(p, d, axis, v),
-            rotation: q,
-        },
-        Kind::Fixed => Pose {
-            position: carried(p, d),
-            rotation: q,
-        },
-        Kind::Unlisted => Pose {
-            position: carried(p, d),
-            rotation: q,
-        },
+    Pose {
+        position: moved(kind, p, d, v),
+        rotation: turned(kind, offset(p.rotation, o), t),
     }
 }
 
@@ -159,17 +176,6 @@ fn value(codes: &[u16], block: &[f64], link: usize, joint: usize) -> f64
     } else {
         0.0
     }
-}
-
-// The pose after a link of the sheet, its joint at v and turned by t.
-fn after_turn(p: Pose, kind: Kind, geo: &[f64], at: usize, v: f64, t: Quat) -> Pose
-    requires { ⌜ 7 * at + 7 ≤ length (now geo) ⌝ }
-    requires { ⌜ t ≡ jointTurn kind v ⌝ }
-    ensures { λ r. ⌜ r ≡ linkOf kind (vecAt (now (geo .entry)) (7 * at)) (quatAt (now (geo .entry)) (7 * at + 3)) v p ⌝ }
-{
-    let d = floats::get_vec(geo, 7 * at);
-    let o = floats::get_quat(geo, 7 * at + 3);
-    link(kind, d, o, v, t, p)
 }
 
 // The pose after a link of the sheet, its joint read from the block.
@@ -186,8 +192,10 @@ pub fn after_link(
     ensures { λ r. ⌜ r ≡ afterLink (now (codes .entry)) (now (geo .entry)) (now (block .entry)) p at joint ⌝ }
 {
     let kind = reader::kind_at(codes, at);
+    let d = floats::get_vec(geo, 7 * at);
+    let o = floats::get_quat(geo, 7 * at + 3);
     let v = value(codes, block, at, joint);
-    after_turn(p, kind, geo, at, v, joint_turn(kind, v))
+    link(kind, d, o, v, joint_turn(kind, v), p)
 }
 
 // The pose with which a link is met: a chain starts at the origin.
@@ -216,30 +224,74 @@ fn put_turns(codes: &[u16], block: &[f64], turns: &mut [f64])
     }
 }
 
-// The pose after a link whose turn is known.
+fn start_rotation(sizes: &[u16], at: usize, q: Quat) -> Quat
+    ensures { λ r. ⌜ r ≡ startTurn (now (sizes .entry)) at q ⌝ }
+{
+    if chain::is_first(sizes, at) {
+        return quaternion::identity();
+    }
+    q
+}
+
+// The rotation after a link that is met with q, its turn t.
+fn after_turn(codes: &[u16], geo: &[f64], q: Quat, at: usize, t: Quat) -> Quat
+    requires { ⌜ 7 * at + 7 ≤ length (now geo) ⌝ }
+    ensures { λ r. ⌜ r ≡ afterTurn (now (codes .entry)) (now (geo .entry)) q at t ⌝ }
+{
+    let o = floats::get_quat(geo, 7 * at + 3);
+    turned(reader::kind_at(codes, at), offset(q, o), t)
+}
+
+// Each link's turn gives way to the rotation after the link: rotations do not wait for positions.
+fn walk_rotations(sizes: &[u16], codes: &[u16], geo: &[f64], turns: &mut [f64])
+    requires { ⌜ (7 * length (now codes) ≤ length (now geo)) × (4 * length (now codes) ≤ length (now turns)) × (length (now codes) ≤ 64) ⌝ }
+    ensures { λ _. ⌜ now (turns .exit) ≡ splice (now (turns .entry)) 0 (rotationsBy (now (sizes .entry)) (now (codes .entry)) (now (geo .entry)) (now (turns .entry))) ⌝ }
+{
+    let mut q = quaternion::identity();
+    let mut at: usize = 0;
+    while at < codes.len() {
+        let t = floats::get_quat(turns, 4 * at);
+        q = after_turn(codes, geo, start_rotation(sizes, at, q), at, t);
+        floats::put_quat(turns, 4 * at, q);
+        at += 1;
+    }
+}
+
+// The pose after a link whose rotation is known.
 fn after_known(
     p: Pose,
     codes: &[u16],
     geo: &[f64],
     block: &[f64],
-    turns: &[f64],
+    rotations: &[f64],
     at: usize,
     joint: usize,
 ) -> Pose
-    requires { ⌜ (at < length (now codes)) × (7 * at + 7 ≤ length (now geo)) × (4 * at + 4 ≤ length (now turns)) ⌝ }
+    requires { ⌜ (at < length (now codes)) × (7 * at + 7 ≤ length (now geo)) × (4 * at + 4 ≤ length (now rotations)) ⌝ }
     requires { ⌜ joint + jointsOf (getD (now codes) at 0) ≤ length (now block) ⌝ }
-    requires { ⌜ quatAt (now turns) (4 * at) ≡ turnAt (now codes) (now block) at joint ⌝ }
+    requires { ⌜ quatAt (now rotations) (4 * at) ≡ afterLink (now codes) (now geo) (now block) p at joint .rotation ⌝ }
     ensures { λ r. ⌜ r ≡ afterLink (now (codes .entry)) (now (geo .entry)) (now (block .entry)) p at joint ⌝ }
 {
     let kind = reader::kind_at(codes, at);
+    let d = floats::get_vec(geo, 7 * at);
     let v = value(codes, block, at, joint);
-    after_turn(p, kind, geo, at, v, floats::get_quat(turns, 4 * at))
+    Pose {
+        position: moved(kind, p, d, v),
+        rotation: floats::get_quat(rotations, 4 * at),
+    }
 }
 
-// Walks all links, whose turns are known.
-fn walk(sizes: &[u16], codes: &[u16], geo: &[f64], block: &[f64], turns: &[f64], out: &mut [f64])
+// Walks all links, whose rotations are known.
+fn walk(
+    sizes: &[u16],
+    codes: &[u16],
+    geo: &[f64],
+    block: &[f64],
+    rotations: &[f64],
+    out: &mut [f64],
+)
     requires { ⌜ Sheet (now sizes) (now codes) (now geo) (now block) ⌝ }
-    requires { ⌜ Turned (now codes) (now block) (now turns) ⌝ }
+    requires { ⌜ Rotated (now sizes) (now codes) (now geo) (now block) (now rotations) ⌝ }
     requires { ⌜ 7 * length (now codes) ≤ length (now out) ⌝ }
     ensures { λ _. ⌜ now (out .exit) ≡ splice (now (out .entry)) 0 (framesOf (now (sizes .entry)) (now (codes .entry)) (now (geo .entry)) (now (block .entry))) ⌝ }
 {
@@ -247,7 +299,7 @@ fn walk(sizes: &[u16], codes: &[u16], geo: &[f64], block: &[f64], turns: &[f64],
     let mut joint: usize = 0;
     let mut at: usize = 0;
     while at < codes.len() {
-        p = after_known(start(sizes, at, p), codes, geo, block, turns, at, joint);
+        p = after_known(start(sizes, at, p), codes, geo, block, rotations, at, joint);
         floats::put(out, 7 * at, p);
         joint = chain::next_joint(codes, at, joint);
         at += 1;
@@ -266,7 +318,8 @@ pub fn get_frames_immutable(
     requires { ⌜ 7 * length (now codes) ≤ length (now out) ⌝ }
     ensures { λ _. ⌜ now (out .exit) ≡ splice (now (out .entry)) 0 (framesOf (now (sizes .entry)) (now (codes .entry)) (now (geo .entry)) (now (block .entry))) ⌝ }
 {
-    let mut turns = [0.0; 256];
-    put_turns(codes, block, &mut turns);
-    walk(sizes, codes, geo, block, &turns, out);
+    let mut rotations = [0.0; 256];
+    put_turns(codes, block, &mut rotations);
+    walk_rotations(sizes, codes, geo, &mut rotations);
+    walk(sizes, codes, geo, block, &rotations, out);
 }

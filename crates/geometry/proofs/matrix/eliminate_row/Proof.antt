@@ -4,14 +4,14 @@ use Prim.Native.Nat.{_-_, _≤_}
 use native.Mathlib.Omega.{arith}
 use lib.ListN.{length}
 use denote.Ref.{now}
-use Rattle.geometry.specs.Matrix.{entry, eliminateRowOf}
-use Rattle.geometry.proofs.Tables.{columns-none, columns-all, columnsOf}
-use Rattle.geometry.proofs.Steps.{lost, lose-turn}
+use Rattle.geometry.specs.Matrix.{entry, eliminatedOf, eliminateRowOf}
+use Rattle.geometry.proofs.Tables.{columnsOf, columns-none, columns-all, inRow}
+use Rattle.geometry.proofs.Steps.{lose-turn}
 use Rattle.geometry.proofs.matrix.eliminate_row.Statement.{statement}
 use Rattle.geometry.proofs.matrix.eliminate_row.Tie as tie
 
 abbrev Inv-loop : tie.InvT-loop
-Inv-loop m₀ k i f c₀ m c = (c ≤ 6) × (m ≡ columnsOf c (lost m₀ k i) (entry m₀))
+Inv-loop m₀ k i f c₀ m c = (c ≤ 6) × (m ≡ columnsOf c (inRow m₀ (eliminatedOf m₀ k) i) (entry m₀))
 
 abbrev μ-loop : tie.MeasureT-loop
 μ-loop m₀ k i f c₀ m c = 6 - c
@@ -44,7 +44,7 @@ loop-holds : tie.Need-loop-holds Inv-loop μ-loop
 loop-holds c =
     let a = c .before .before .args in
     let l : length (now (a .m)) ≡ 36 = omega arith in
-    (omega arith, columns-none (lost (now (a .m)) (a .k) (a .i)) (entry (now (a .m))) (now (a .m)) l (λ i j hi hj. refl))
+    (omega arith, columns-none (inRow (now (a .m)) (eliminatedOf (now (a .m)) (a .k)) (a .i)) (entry (now (a .m))) (now (a .m)) l (λ i j hi hj. refl))
 
 mul-m : tie.Need-mul-m Inv-loop μ-loop
 mul-m c = omega arith
@@ -100,7 +100,7 @@ unfolding eliminateRowOf
 returns c =
     let l = c .before in
     let a = l .before .before .before .args in
-    columns-all (lost (now (a .m)) (a .k) (a .i)) (entry (now (a .m))) (l .loop .m) (l .loop .c) (omega arith) (l .loop .inv .1)
+    columns-all (inRow (now (a .m)) (eliminatedOf (now (a .m)) (a .k)) (a .i)) (entry (now (a .m))) (l .loop .m) (l .loop .c) (omega arith) (l .loop .inv .1)
 
 pub eliminate-row-spec : {M : Type 1} → statement M
 eliminate-row-spec =

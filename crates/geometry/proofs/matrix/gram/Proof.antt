@@ -1,67 +1,54 @@
--- `gram` meets its contract. The entries before `n` are the product's.
-use mathlib.Core.Path.{_≡_, refl, _∙_}
-use Prim.Native.Nat.{ℕ, _-_, _/_, _%_, _≤_, _<_}
+-- `gram` meets its contract. The entries are the sums over the columns before `c`.
+use mathlib.Core.Path.{_≡_, refl, ap, _∙_}
+use mathlib.Core.List.{List}
+use Prim.Native.Nat.{ℕ, _-_, _/_, _≤_}
 use native.Mathlib.Omega.{arith}
-use lib.Ieee.{nan}
-use lib.ListN.{length, getD, length-set}
+use lib.Ieee.{Float}
+use lib.ListN.{length}
 use denote.Ref.{now}
-use Rattle.geometry.specs.Matrix.{sumOf, matrixOf, gramOf}
-use Rattle.geometry.proofs.Tables.{table-is, fill-turn}
+use Rattle.geometry.specs.Matrix.{table, matrixOf, sumTo, sumOf, addColumnOf, gramOf}
+use Rattle.geometry.proofs.Tables.{length-matrix}
+use Rattle.geometry.proofs.Sums.{sums, sums-turn}
 use Rattle.geometry.proofs.matrix.gram.Statement.{statement}
 use Rattle.geometry.proofs.matrix.gram.Tie as tie
 
 abbrev Inv-loop : tie.InvT-loop
-Inv-loop j m₀ n₀ m n = (n ≤ 36) × (length m ≡ 36) × ((q : ℕ) → q < n → getD m q nan ≡ sumOf j (q / 6) (q % 6))
+Inv-loop j n m₀ c₀ m c = (c ≤ n) × (m ≡ matrixOf (sums j c))
 
 abbrev μ-loop : tie.MeasureT-loop
-μ-loop j m₀ n₀ m n = 36 - n
+μ-loop j n m₀ c₀ m c = n - c
 
 loop-holds : tie.Need-loop-holds Inv-loop μ-loop
-loop-holds c = (omega arith, refl, λ q h. absurd (omega arith))
+unfolding matrixOf table sumTo
+loop-holds c = (omega arith, refl)
 
-product-entry-requires : tie.Need-product-entry-requires Inv-loop μ-loop
-product-entry-requires c κs = omega arith
+add-column-requires : tie.Need-add-column-requires Inv-loop μ-loop
+add-column-requires c κs =
+    let l = c .before .before in
+    let a = l .before .before .args in
+    (omega arith, ap length (l .loop .inv .1) ∙ length-matrix (sums (now (a .j)) (l .loop .c)))
 
-mul-m : tie.Need-mul-m Inv-loop μ-loop
-mul-m c = omega arith
-
-array-write-m : tie.Need-array-write-m Inv-loop μ-loop
-array-write-m c = omega arith
-
-add-n : tie.Need-add-n Inv-loop μ-loop
-add-n c = omega arith
+add-c : tie.Need-add-c Inv-loop μ-loop
+add-c c = omega arith
 
 loop-less : tie.Need-loop-less Inv-loop μ-loop
 loop-less c = omega arith
 
 loop-again : tie.Need-loop-again Inv-loop μ-loop
 loop-again c =
-    let l = c .before .before in
+    let l = c .before .before .before in
     let a = l .before .before .args in
-    let i = l .loop .inv in (
-      omega arith,
-      length-set (l .loop .m) (l .loop .n) (c .product-entry .result) ∙ i .1,
-      fill-turn (λ q. sumOf (now (a .j)) (q / 6) (q % 6)) (l .loop .m) (l .loop .n) (c .product-entry .result) (omega arith) (i .2) (c .product-entry .ensures),
-    )
+    (omega arith, c .add-column .ensures ∙ ap (λ (z : List Float). addColumnOf z (now (a .j)) (l .loop .c)) (l .loop .inv .1) ∙ sums-turn (now (a .j)) (l .loop .c))
 
 returns : tie.Need-returns Inv-loop μ-loop
-unfolding gramOf matrixOf
+unfolding gramOf sumOf
 returns c =
     let l = c .before in
     let a = l .before .before .args in
-    table-is (λ q. sumOf (now (a .j)) (q / 6) (q % 6)) 36 (l .loop .m) (l .loop .inv .1) (λ q h. l .loop .inv .2 q (omega arith))
+    let n : l .loop .c ≡ length (now (a .j)) / 6 = omega arith in
+    l .loop .inv .1 ∙ ap (λ (z : ℕ). matrixOf (sums (now (a .j)) z)) n
 
 pub gram-spec : {M : Type 1} → statement M
 gram-spec =
     tie.close
-    (tie.spec
-    Inv-loop
-    μ-loop
-    loop-holds
-    product-entry-requires
-    mul-m
-    array-write-m
-    add-n
-    loop-less
-    loop-again
-    returns)
+    (tie.spec Inv-loop μ-loop loop-holds add-column-requires add-c loop-less loop-again returns)

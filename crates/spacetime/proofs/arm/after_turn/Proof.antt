@@ -1,13 +1,8 @@
 -- `after_turn` meets its contract: by what its calls ensure. Assumes nothing.
+use Rattle.spacetime.specs.Turns.{afterTurn}
 use borrow.Author.Needs.{needs}
 use Rattle.spacetime.proofs.arm.after_turn.Statement.{statement}
 use Rattle.spacetime.proofs.arm.after_turn.Tie as tie
-
-mul-get-vec : tie.Need-mul-get-vec
-mul-get-vec c = search needs
-
-get-vec-requires : tie.Need-get-vec-requires
-get-vec-requires c κs = search needs
 
 mul-get-quat : tie.Need-mul-get-quat
 mul-get-quat c = search needs
@@ -18,20 +13,27 @@ add-get-quat c = search needs
 get-quat-requires : tie.Need-get-quat-requires
 get-quat-requires c κs = search needs
 
-link-requires : tie.Need-link-requires
-link-requires c κs = search needs
+kind-at-requires : tie.Need-kind-at-requires
+kind-at-requires c κs = search needs
+
+offset-requires : tie.Need-offset-requires
+offset-requires c κs = search needs
+
+turned-requires : tie.Need-turned-requires
+turned-requires c κs = search needs
 
 returns : tie.Need-returns
+unfolding afterTurn
 returns c = cc
 
 pub after-turn-spec : {M : Type 1} → statement M
 after-turn-spec =
     tie.close
     (tie.spec
-    mul-get-vec
-    get-vec-requires
     mul-get-quat
     add-get-quat
     get-quat-requires
-    link-requires
+    kind-at-requires
+    offset-requires
+    turned-requires
     returns)

@@ -1,25 +1,25 @@
 -- `put_turns` meets its contract: turn after turn one joint more. Assumes nothing.
 use mathlib.Core.Path.{_≡_, refl, sym, ap, _∙_}
-use Prim.Native.Nat.{ℕ, _+_, _-_, _*_, _≤_}
+use Prim.Native.Nat.{ℕ, _+_, _-_, _≤_}
 use native.Mathlib.Omega.{arith}
 use denote.Ref.{now}
 use lib.ListN.{length, getD}
+use Rattle.geometry.specs.declared.quaternion.Quat.{Quat}
 use Rattle.lists.specs.Splice.{splice}
-use Rattle.lists.specs.Runs.{runs, length-runs, splice-start-at, splice-turn-at}
 use Rattle.sheet.specs.Chain.{jointsOf, jointOf, joint-zero, joint-more, joint-mono, joint-last, joint-le}
-use Rattle.spacetime.specs.Turns.{turnAt, turnPiece, turn-length, turn-made, turnsOf}
+use Rattle.spacetime.specs.Turns.{quatsOf, quats-none, quats-turn, turnAt, turnsOf}
 use Rattle.spacetime.proofs.arm.put_turns.Statement.{statement}
 use Rattle.spacetime.proofs.arm.put_turns.Tie as tie
 
 abbrev Inv-loop : tie.InvT-loop
 Inv-loop codes block turns₀ joint₀ at₀ turns joint at =
-    (at ≤ length codes) × (joint ≡ jointOf codes at) × (length turns ≡ length turns₀) × (turns ≡ splice turns₀ 0 (runs (turnPiece codes block) 0 at))
+    (at ≤ length codes) × (joint ≡ jointOf codes at) × (length turns ≡ length turns₀) × (turns ≡ splice turns₀ 0 (quatsOf (λ l. turnAt codes block l (jointOf codes l)) at))
 
 abbrev μ-loop : tie.MeasureT-loop
 μ-loop codes block turns₀ joint₀ at₀ turns joint at = length codes - at
 
 loop-holds : tie.Need-loop-holds Inv-loop μ-loop
-loop-holds c = (omega arith, sym (joint-zero _), refl, splice-start-at (turnPiece _ _) _ 0)
+loop-holds c = (omega arith, sym (joint-zero _), refl, quats-none _ _)
 
 value-requires : tie.Need-value-requires Inv-loop μ-loop
 value-requires c κs =
@@ -63,12 +63,12 @@ loop-again c =
     let cs = now (s .args .codes) in
     let x = now (s .args .block) in
     let k = l .loop .at in
-    let n : length (runs (turnPiece cs x) 0 k) ≡ k * 4 = length-runs (turnPiece cs x) 4 (turn-length cs x) 0 k in (
+    let turn : ℕ → Quat = λ l. turnAt cs x l (jointOf cs l) in (
       omega (arith, v .before),
       c .next-joint .ensures ∙ ap (λ (j : ℕ). j + jointsOf (getD cs k 0)) (l .loop .inv .1) ∙ sym (joint-more cs k),
       c .before .before .before .put-quat .kept .0 ∙ l .loop .inv .2,
-      splice-turn-at (turnPiece cs x) (now (s .args .turns)) (l .loop .turns) _ 0 (4 * k) k (l .loop .inv .3) (omega arith) (omega (arith, s .pre, l .loop .inv, v .before))
-          (c .before .before .before .put-quat .ensures ∙ ap (splice (l .loop .turns) (4 * k)) (turn-made cs x k (l .loop .joint) (t .joint-turn .result) (l .loop .inv .1) (made t))),
+      quats-turn turn (now (s .args .turns)) (l .loop .turns) _ k (t .joint-turn .result) (l .loop .inv .3) (omega (arith, s .pre, l .loop .inv))
+          (made t ∙ ap (turnAt cs x k) (l .loop .inv .1)) (c .before .before .before .put-quat .ensures),
     )
   where
     made : (t : tie.After-joint-turn Inv-loop μ-loop) → t .joint-turn .result ≡ turnAt (now (t .before .before .before .before .before .before .before .before .args .codes)) (now (t .before .before .before .before .before .before .before .before .args .block)) (t .before .before .before .before .loop .at) (t .before .before .before .before .loop .joint)
@@ -83,7 +83,7 @@ returns c =
     let l = c .before in
     let s = l .before .before .before .before in
     let e : l .loop .at ≡ length (now (s .args .codes)) = omega (arith, l .loop .inv, c) in
-    l .loop .inv .3 ∙ ap (λ (n : ℕ). splice (now (s .args .turns)) 0 (runs (turnPiece (now (s .args .codes)) (now (s .args .block))) 0 n)) e
+    l .loop .inv .3 ∙ ap (λ (n : ℕ). splice (now (s .args .turns)) 0 (quatsOf (λ l. turnAt (now (s .args .codes)) (now (s .args .block)) l (jointOf (now (s .args .codes)) l)) n)) e
 
 pub put-turns-spec : {M : Type 1} → statement M
 put-turns-spec =

@@ -7,10 +7,7 @@ use Rattle.spacetime.proofs.arm.slid.Tie as tie
 
 returns : tie.Need-returns
 unfolding slidOf
-returns c = rw (eq-eqb _ 0 (c .before .if1 .taken))
-
-carried-requires : tie.Need-carried-requires
-carried-requires c κs = search needs
+returns c = rw (eq-eqb _ 0 (c .if1 .taken))
 
 along-requires : tie.Need-along-requires
 along-requires c κs = search needs
@@ -20,7 +17,7 @@ add-requires c κs = search needs
 
 returns-2 : tie.Need-returns-2
 unfolding slidOf
-returns-2 c = rw (ne-eqb _ 0 (c .before .before .before .if1 .left)) (cc)
+returns-2 c = rw (ne-eqb _ 0 (c .before .before .if1 .left)) (cc)
 
 pub slid-spec : {M : Type 1} → statement M
-slid-spec = tie.close (tie.spec returns carried-requires along-requires add-requires returns-2)
+slid-spec = tie.close (tie.spec returns along-requires add-requires returns-2)

@@ -4,11 +4,11 @@ use Prim.Native.Nat.{ℕ, _+_, _-_, _*_, _≤_}
 use native.Mathlib.Omega.{arith}
 use denote.Ref.{now}
 use lib.ListN.{length, getD}
+use Rattle.geometry.specs.declared.pose.Pose.{Pose}
 use Rattle.lists.specs.Splice.{splice}
 use Rattle.lists.specs.Runs.{runs, length-runs, splice-start-at, splice-turn-at}
 use Rattle.sheet.specs.Chain.{jointsOf, jointOf, first-zero, joint-zero, joint-more, joint-mono, joint-last, joint-le}
-use Rattle.spacetime.specs.Walk.{startOf, beforeOf, poseOf, poses, poses-length, framesOf, start-zero, pose-made, flat-made, next-met}
-use Rattle.spacetime.specs.Turns.{turnAt}
+use Rattle.spacetime.specs.Walk.{afterLink, startOf, beforeOf, poseOf, poses, poses-length, framesOf, start-zero, pose-made, flat-made, next-met}
 use Rattle.spacetime.proofs.arm.walk.Statement.{statement}
 use Rattle.spacetime.proofs.arm.walk.Tie as tie
 
@@ -33,12 +33,16 @@ after-known-requires : tie.Need-after-known-requires Inv-loop μ-loop
 after-known-requires c κs =
     let l = c .before .before in
     let s = l .before .before .before .before .before .before .before .before in
+    let ns = now (s .args .sizes) in
     let cs = now (s .args .codes) in
-    let k = l .loop .at in (
+    let gs = now (s .args .geo) in
+    let x = now (s .args .block) in
+    let k = l .loop .at in
+    let made = pose-made ns cs gs x k (l .loop .joint) (l .loop .p) (c .start .result) (afterLink cs gs x (c .start .result) k (l .loop .joint)) (l .loop .inv .2) (l .loop .inv .1) (c .start .ensures) refl in (
       (omega (arith, s .pre), omega (arith, s .pre), omega (arith, s .pre .1 .0 .room, c .before)),
       (
         omega (arith, s .pre, joint-more cs k, joint-mono cs (k + 1) (length cs) (omega (arith, c .before)), joint-last cs),
-        s .pre .1 .0 .each k (omega (arith, c .before)) ∙ ap (turnAt cs (now (s .args .block)) k) (sym (l .loop .inv .1)),
+        s .pre .1 .0 .each k (omega (arith, c .before)) ∙ ap (λ (p : Pose). p .rotation) (sym made),
       ),
     )
 
