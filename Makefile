@@ -2,7 +2,7 @@
 CASES ?= 2000000
 SEED ?= 1
 
-.PHONY: run test library host compare bench header controller
+.PHONY: run test library host compare bench header pages controller
 
 run: host
 	host/target/release/sonde --batch examples/sheets/good
@@ -28,6 +28,11 @@ bench: host
 header: host
 	tools/header_test
 	host/target/release/header
+
+# what the pages count, link and draw, from the sources
+pages:
+	cargo build --release --offline --quiet --manifest-path host/Cargo.toml --package pages
+	host/target/release/pages
 
 # the C controller, plainly and with guard bytes under the sanitizers
 controller: library

@@ -7,6 +7,7 @@ use groove::vars;
 ghost use mathlib.Core.Path.{_≡_};
 ghost use Rattle.relaxed_ik.specs.Party.{setGoalsOf, resetStateOf, updateStateOf};
 
+// Keeps goals, thirteen floats a chain, in place of those before.
 pub fn set_goals(state: State, goals: &[f64]) -> Outcome
     ensures { λ r. ⌜ r ≡ setGoalsOf state (now (goals .entry)) ⌝ }
 {

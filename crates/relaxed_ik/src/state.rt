@@ -41,6 +41,7 @@ pub struct Counts {
     pub links: usize,
 }
 
+// No goals, no start, no history.
 pub fn empty_party() -> Party
     ensures { λ r. ⌜ r ≡ emptyParty ⌝ }
 {
