@@ -1,7 +1,8 @@
 //! The byte calls on arms against the published functions. A call is lent the
 //! sheet each time: it decodes and checks everything before it works, and
 //! writes lists of bytes. The published function has its arms made beforehand,
-//! so the ratio holds all of that too.
+//! so the ratio holds all of that too. Calls that do little else than check
+//! have the plain reading of the refusals on the other side.
 
 use crate::{Draw, Rows};
 use proved::arms::{self, Sheet};
@@ -62,64 +63,226 @@ pub fn first(bytes: &[u8]) -> f64 {
     f64::from_le_bytes(bytes[..8].try_into().expect("eight bytes"))
 }
 
-pub fn rows(rows: &mut Rows, draw: &mut Draw) {
-    for joints in [7, 16] {
-        let chain = Chains::new(&[joints], draw);
-        // Joints as numbers and as bytes, for either side what it takes.
-        let blocks = draw.inputs(|d| {
-            let block: Vec<f64> = (0..joints).map(|_| d.between(-3.0, 3.0)).collect();
+/// Few enough for a pass of about a millisecond.
+const BLOCKS: usize = 256;
+
+/// Joints with goals and a history, in numbers and in bytes: for either side
+/// what it takes.
+struct Block {
+    joints: Vec<f64>,
+    joints_bytes: Vec<u8>,
+    history_bytes: Vec<u8>,
+    goals_bytes: Vec<u8>,
+}
+
+impl Block {
+    fn new(chains: &Chains, draw: &mut Draw) -> Self {
+        let mut drawn =
+            |count: usize| -> Vec<f64> { (0..count).map(|_| draw.between(-3.0, 3.0)).collect() };
+        let count = chains.robot.num_dofs;
+        let (joints, history) = (drawn(count), drawn(4 * count));
+        let mut goals = Vec::new();
+        for _ in &chains.robot.arms {
+            goals.extend(draw.floats::<3>(-1.0, 1.0));
+            goals.extend(draw.quaternion());
+            goals.extend(draw.floats::<6>(0.0, 1.0));
+        }
+        let bytes = |floats: &[f64]| {
             let mut bytes = Vec::new();
-            put_floats(&block, &mut bytes);
-            (block, bytes)
-        });
-        let (positions, rotations) = (24 * (joints + 1), 32 * (joints + 2));
-        let lists = RefCell::new((vec![0; positions], vec![0; rotations]));
-        rows.row(
-            &format!("frames, {joints} joints"),
-            &blocks,
-            |(_, bytes)| {
-                let (positions, rotations) = &mut *lists.borrow_mut();
-                let answer = arms::frames(chain.sheet(), bytes, positions, rotations);
-                assert_eq!(answer, refusals::ACCEPTED);
-                first(&positions[24 * joints..])
-            },
-            |(block, _)| {
-                let frames = chain.robot.get_frames_immutable(block);
-                frames[0].0[joints].x
-            },
-        );
-        let value = RefCell::new([0; 8]);
-        rows.row(
-            &format!("manipulability, {joints} joints"),
-            &blocks,
-            |(_, bytes)| {
-                let value = &mut *value.borrow_mut();
-                let answer = arms::manipulability(chain.sheet(), bytes, value);
-                assert_eq!(answer, refusals::ACCEPTED);
-                first(value)
-            },
-            |(block, _)| chain.robot.get_manipulability_immutable(block),
-        );
+            put_floats(floats, &mut bytes);
+            bytes
+        };
+        Self {
+            joints_bytes: bytes(&joints),
+            history_bytes: bytes(&history),
+            goals_bytes: bytes(&goals),
+            joints,
+        }
     }
-    // Nothing published checks a sheet: the other side is the plain reading of
-    // document 01 that the comparison uses.
-    for joints in [7, 16] {
-        // A sheet is a thousand bytes, so few of them stay near the processor.
-        let chains: Vec<Chains> = (0..64).map(|_| Chains::new(&[joints], draw)).collect();
-        let numbers = RefCell::new((Vec::new(), Vec::new(), Vec::new(), Vec::new()));
-        rows.row(
-            &format!("load, {joints} joints"),
-            &chains,
-            |chain| f64::from(arms::load(chain.sheet())),
-            |chain| {
-                let (sizes, codes, floats, limits) = &mut *numbers.borrow_mut();
-                f64::from(refusals::load(&refusals::Sheet {
-                    sizes: u16s(&chain.sizes, sizes),
-                    codes: u16s(&chain.codes, codes),
-                    floats: f64s(&chain.floats, floats),
-                    limits: f64s(&chain.limits, limits),
-                }))
-            },
-        );
+}
+
+/// The outputs of the calls, as long as they need them.
+struct Outputs {
+    positions: Vec<u8>,
+    rotations: Vec<u8>,
+    ends: Vec<u8>,
+    history: Vec<u8>,
+    value: [u8; 8],
+}
+
+impl Outputs {
+    fn new(chains: &Chains) -> Self {
+        let (arms, links) = (chains.robot.arms.len(), chains.robot.num_dofs);
+        Self {
+            positions: vec![0; 24 * (links + arms)],
+            rotations: vec![0; 32 * (links + 2 * arms)],
+            ends: vec![0; 56 * arms],
+            history: vec![0; 32 * links],
+            value: [0; 8],
+        }
     }
+}
+
+/// The last float of an output, so that the sums show it.
+fn last(answer: u32, bytes: &[u8]) -> f64 {
+    assert_eq!(answer, refusals::ACCEPTED);
+    first(&bytes[bytes.len() - 8..])
+}
+
+/// A sheet's lists decoded, in memory that is used again.
+#[derive(Default)]
+struct Decoded {
+    sizes: Vec<u16>,
+    codes: Vec<u16>,
+    floats: Vec<f64>,
+    limits: Vec<f64>,
+}
+
+impl Decoded {
+    fn sheet<'a>(&'a mut self, chains: &Chains) -> refusals::Sheet<'a> {
+        refusals::Sheet {
+            sizes: u16s(&chains.sizes, &mut self.sizes),
+            codes: u16s(&chains.codes, &mut self.codes),
+            floats: f64s(&chains.floats, &mut self.floats),
+            limits: f64s(&chains.limits, &mut self.limits),
+        }
+    }
+}
+
+pub fn rows(rows: &mut Rows, draw: &mut Draw, label: &str, chains: &Chains) {
+    checks(rows, draw, label, chains);
+    let blocks: Vec<Block> = (0..BLOCKS).map(|_| Block::new(chains, draw)).collect();
+    walks(rows, label, chains, &blocks);
+    histories(rows, label, chains, &blocks);
+}
+
+/// Nothing published checks a sheet or goals: the other side is the plain
+/// reading of document 01 that the comparison uses, on the same bytes.
+fn checks(rows: &mut Rows, draw: &mut Draw, label: &str, chains: &Chains) {
+    let joints = &chains.robot.chain_lengths;
+    // A sheet is a thousand bytes, so few of them stay near the processor.
+    let sheets: Vec<(Chains, Block)> = (0..64)
+        .map(|_| {
+            let chains = Chains::new(joints, draw);
+            let block = Block::new(&chains, draw);
+            (chains, block)
+        })
+        .collect();
+    let decoded = RefCell::new(Decoded::default());
+    rows.row(
+        &format!("load, {label}"),
+        &sheets,
+        |(chains, _)| f64::from(arms::load(chains.sheet())),
+        |(chains, _)| f64::from(refusals::load(&decoded.borrow_mut().sheet(chains))),
+    );
+    let numbers = RefCell::new(Vec::new());
+    rows.row(
+        &format!("set_goals, {label}"),
+        &sheets,
+        |(chains, block)| f64::from(arms::set_goals(chains.sheet(), &block.goals_bytes)),
+        |(chains, block)| {
+            let (decoded, numbers) = (&mut *decoded.borrow_mut(), &mut *numbers.borrow_mut());
+            let goals = f64s(&block.goals_bytes, numbers);
+            f64::from(refusals::set_goals(&decoded.sheet(chains), goals))
+        },
+    );
+}
+
+fn walks(rows: &mut Rows, label: &str, chains: &Chains, blocks: &[Block]) {
+    let outputs = RefCell::new(Outputs::new(chains));
+    rows.row(
+        &format!("frames, {label}"),
+        blocks,
+        |block| {
+            let Outputs {
+                positions,
+                rotations,
+                ..
+            } = &mut *outputs.borrow_mut();
+            let sheet = chains.sheet();
+            last(
+                arms::frames(sheet, &block.joints_bytes, positions, rotations),
+                rotations,
+            )
+        },
+        |block| {
+            let frames = chains.robot.get_frames_immutable(&block.joints);
+            let (_, rotations) = &frames[frames.len() - 1];
+            rotations[rotations.len() - 1].k
+        },
+    );
+    rows.row(
+        &format!("pose, {label}"),
+        blocks,
+        |block| {
+            let ends = &mut outputs.borrow_mut().ends;
+            last(arms::pose(chains.sheet(), &block.joints_bytes, ends), ends)
+        },
+        |block| {
+            let ends = chains.robot.get_ee_pos_and_quat_immutable(&block.joints);
+            ends[ends.len() - 1].1.k
+        },
+    );
+    rows.row(
+        &format!("manipulability, {label}"),
+        blocks,
+        |block| {
+            let value = &mut outputs.borrow_mut().value;
+            let answer = arms::manipulability(chains.sheet(), &block.joints_bytes, value);
+            last(answer, value)
+        },
+        |block| chains.robot.get_manipulability_immutable(&block.joints),
+    );
+}
+
+fn histories(rows: &mut Rows, label: &str, chains: &Chains, blocks: &[Block]) {
+    let outputs = RefCell::new(Outputs::new(chains));
+    let mut vars = sheet::loaded(chains.robot.clone());
+    vars.reset(blocks[0].joints.clone());
+    let vars = RefCell::new(vars);
+    rows.row(
+        &format!("reset, {label}"),
+        blocks,
+        |block| {
+            let Outputs { history, ends, .. } = &mut *outputs.borrow_mut();
+            let answer = arms::reset(chains.sheet(), &block.joints_bytes, history, ends);
+            last(answer, ends)
+        },
+        |block| {
+            let vars = &mut *vars.borrow_mut();
+            vars.reset(block.joints.clone());
+            vars.init_ee_quats[vars.init_ee_quats.len() - 1].k
+        },
+    );
+    // The published update copies four blocks and looks at nothing; the checks
+    // are put before it.
+    let decoded = RefCell::new((Decoded::default(), Vec::new(), Vec::new()));
+    rows.row(
+        &format!("update, {label}"),
+        blocks,
+        |block| {
+            let history = &mut outputs.borrow_mut().history;
+            let Block {
+                history_bytes,
+                joints_bytes,
+                ..
+            } = block;
+            let answer = arms::update(chains.sheet(), history_bytes, joints_bytes, history);
+            assert_eq!(answer, refusals::ACCEPTED);
+            first(history)
+        },
+        |block| {
+            let (decoded, old, new) = &mut *decoded.borrow_mut();
+            let (old, new) = (
+                f64s(&block.history_bytes, old),
+                f64s(&block.joints_bytes, new),
+            );
+            let room = refusals::Room::of(old.numbers.len());
+            let answer = refusals::update(&decoded.sheet(chains), old, new, room);
+            assert_eq!(answer, refusals::ACCEPTED);
+            let vars = &mut *vars.borrow_mut();
+            vars.update(block.joints.clone());
+            vars.xopt[0]
+        },
+    );
 }

@@ -5,7 +5,7 @@
 use crate::arms::{first, Chains};
 use crate::{Draw, Rows};
 use proved::objective::{self, Given, Record};
-use proved::{losses, put_floats};
+use proved::{losses as proved_losses, put_floats};
 use reference::groove::objective::{groove_loss, swamp_groove_loss, swamp_loss};
 use reference::groove::objective_master::ObjectiveMaster;
 use reference::groove::vars::RelaxedIKVars;
@@ -13,40 +13,29 @@ use reference::{losses as published, record, refusals, sheet};
 use std::cell::RefCell;
 
 /// Few enough for the slowest row, which takes half a millisecond a call.
-const STATES: usize = 64;
+const STATES: usize = 8;
 /// Of each kind.
 const TOLERANCES: [f64; 6] = [0.0, 0.1, 0.05, 0.0, 0.5, 3.2];
 
-pub fn rows(rows: &mut Rows, draw: &mut Draw) {
-    of_losses(rows, draw);
-    for (label, joints) in [
-        ("7 joints", &[7][..]),
-        ("16 joints", &[16]),
-        ("7 + 7 joints", &[7, 7]),
-    ] {
-        of_arms(rows, draw, label, joints);
-    }
-}
-
-fn of_losses(rows: &mut Rows, draw: &mut Draw) {
+pub fn losses(rows: &mut Rows, draw: &mut Draw) {
     let distances = draw.inputs(|d| d.between(-1.0, 1.0));
     rows.row(
         "groove_loss",
         &distances,
-        |x| losses::groove_loss(*x, 0.0, 0.1, 10.0),
+        |x| proved_losses::groove_loss(*x, 0.0, 0.1, 10.0),
         |x| groove_loss(*x, 0.0, 2, 0.1, 10.0, 2),
     );
     rows.row(
         "swamp_groove_loss",
         &distances,
-        |x| losses::swamp_groove_loss(*x, 0.0, -0.5, 0.5, 1.0, 1.0, 0.01, 100.0),
+        |x| proved_losses::swamp_groove_loss(*x, 0.0, -0.5, 0.5, 1.0, 1.0, 0.01, 100.0),
         |x| swamp_groove_loss(*x, 0.0, -0.5, 0.5, 1.0, 1.0, 0.01, 100.0, 20),
     );
     for power in [20, 30] {
         rows.row(
             &format!("swamp_loss, power {power}"),
             &distances,
-            |x| losses::swamp_loss(*x, 0.02, 1.5, 60.0, 0.0001, power),
+            |x| proved_losses::swamp_loss(*x, 0.02, 1.5, 60.0, 0.0001, power),
             |x| swamp_loss(*x, 0.02, 1.5, 60.0, 0.0001, i32::from(power)),
         );
     }
@@ -54,13 +43,13 @@ fn of_losses(rows: &mut Rows, draw: &mut Draw) {
     rows.row(
         "loss_position",
         &bounded,
-        |[x, bound]| losses::position(*x, *bound),
+        |[x, bound]| proved_losses::position(*x, *bound),
         |[x, bound]| published::position(*x, *bound),
     );
     rows.row(
         "loss_rotation",
         &bounded,
-        |[x, bound]| losses::rotation(*x, *bound),
+        |[x, bound]| proved_losses::rotation(*x, *bound),
         |[x, bound]| published::rotation(*x, *bound),
     );
     let limited = published::limited(-3.0, 3.0);
@@ -68,7 +57,7 @@ fn of_losses(rows: &mut Rows, draw: &mut Draw) {
     rows.row(
         "loss_limits",
         &joints,
-        |x| losses::limits(*x, -3.0, 3.0),
+        |x| proved_losses::limits(*x, -3.0, 3.0),
         |x| published::limits(*x, &limited),
     );
 }
@@ -150,9 +139,8 @@ fn shown((value, slopes): (f64, Vec<f64>)) -> f64 {
     value + slopes[slopes.len() - 1]
 }
 
-fn of_arms(rows: &mut Rows, draw: &mut Draw, label: &str, joints: &[usize]) {
-    let chains = Chains::new(joints, draw);
-    let states: Vec<State> = (0..STATES).map(|_| State::new(&chains, draw)).collect();
+pub fn rows(rows: &mut Rows, draw: &mut Draw, label: &str, chains: &Chains) {
+    let states: Vec<State> = (0..STATES).map(|_| State::new(chains, draw)).collect();
     let master = ObjectiveMaster::relaxed_ik(&chains.robot.chain_lengths);
     let walked = record::record(&chains.robot, &states[0].joints).links.len();
     let lists = RefCell::new(Lists::new(chains.robot.num_dofs, walked));
@@ -161,7 +149,7 @@ fn of_arms(rows: &mut Rows, draw: &mut Draw, label: &str, joints: &[usize]) {
         &states,
         |state| {
             let value = &mut lists.borrow_mut().value;
-            let answer = objective::objective(state.given(&chains), &state.joints_bytes, value);
+            let answer = objective::objective(state.given(chains), &state.joints_bytes, value);
             assert_eq!(answer, refusals::ACCEPTED);
             first(value)
         },
@@ -173,7 +161,7 @@ fn of_arms(rows: &mut Rows, draw: &mut Draw, label: &str, joints: &[usize]) {
         |state| {
             let lists = &mut *lists.borrow_mut();
             let answer = objective::gradient(
-                state.given(&chains),
+                state.given(chains),
                 &state.joints_bytes,
                 &mut lists.scratch,
                 &mut lists.value,
@@ -189,7 +177,7 @@ fn of_arms(rows: &mut Rows, draw: &mut Draw, label: &str, joints: &[usize]) {
         |state| {
             let lists = &mut *lists.borrow_mut();
             let answer = objective::gradient_finite_diff(
-                state.given(&chains),
+                state.given(chains),
                 &state.joints_bytes,
                 &mut lists.scratch,
                 &mut lists.value,
@@ -206,7 +194,7 @@ fn of_arms(rows: &mut Rows, draw: &mut Draw, label: &str, joints: &[usize]) {
         |state| {
             let lists = &mut *lists.borrow_mut();
             let answer = objective::gradient_one_block(
-                state.given(&chains),
+                state.given(chains),
                 &state.joints_bytes,
                 &mut lists.value,
                 &mut lists.slopes,

@@ -55,6 +55,36 @@ pub fn kinds() -> Vec<Kind> {
 }
 
 impl Call {
+    pub const ALL: [Self; 11] = [
+        Self::Load,
+        Self::SetGoals,
+        Self::Frames,
+        Self::Pose,
+        Self::Manipulability,
+        Self::Reset,
+        Self::Update,
+        Self::Objective,
+        Self::Gradient,
+        Self::GradientFiniteDiff,
+        Self::GradientOneBlock,
+    ];
+
+    pub fn name(self) -> &'static str {
+        match self {
+            Self::Load => "load",
+            Self::SetGoals => "set_goals",
+            Self::Frames => "frames",
+            Self::Pose => "pose",
+            Self::Manipulability => "manipulability",
+            Self::Reset => "reset",
+            Self::Update => "update",
+            Self::Objective => "objective",
+            Self::Gradient => "gradient",
+            Self::GradientFiniteDiff => "gradient_finite_diff",
+            Self::GradientOneBlock => "gradient_one_block",
+        }
+    }
+
     /// The lists it reads, the sheet's four first.
     pub fn read(self) -> &'static [List] {
         use List::{Codes, Floats, Goals, History, Joints, Limits, Sizes};
@@ -89,7 +119,7 @@ impl Call {
     }
 
     /// Numbers that its outputs need for lists of these counts.
-    fn needs(self, lists: &Lists) -> Vec<usize> {
+    pub fn needs(self, lists: &Lists) -> Vec<usize> {
         let (chains, links, joints) = (lists.chains, lists.links, lists.joints);
         let walked = lists.walked;
         match self {
@@ -106,7 +136,7 @@ impl Call {
     }
 
     /// Bytes of an output's numbers: the record's joints and links are u16s.
-    fn unit(self, output: usize) -> usize {
+    pub fn unit(self, output: usize) -> usize {
         match (self, output) {
             (Call::GradientOneBlock, 2 | 3) => 2,
             _ => 8,
@@ -174,7 +204,7 @@ impl Call {
 
 /// What a call writes to one of its outputs.
 #[derive(Debug)]
-enum Written {
+pub enum Written {
     Floats(Vec<f64>),
     U16s(Vec<u16>),
 }
@@ -183,7 +213,7 @@ use Written::{Floats, U16s};
 
 impl Written {
     /// In place of what `bytes` held.
-    fn put(&self, bytes: &mut Vec<u8>) {
+    pub fn put(&self, bytes: &mut Vec<u8>) {
         match self {
             Floats(floats) => put_floats(floats, bytes),
             U16s(numbers) => put_u16s(numbers, bytes),
@@ -194,7 +224,7 @@ impl Written {
 /// The reference's answers. It sees nothing but the bytes that the call is
 /// lent, and keeps the arms made last, since many cases share a sheet.
 #[derive(Default)]
-struct Judge {
+pub struct Judge {
     sizes: Vec<u16>,
     codes: Vec<u16>,
     floats: Vec<f64>,
@@ -212,7 +242,7 @@ struct Made {
 
 impl Judge {
     /// The number, and what is written if that is 0.
-    fn answer(&mut self, call: Call, read: &[&[u8]], rooms: &[usize]) -> (u32, Vec<Written>) {
+    pub fn answer(&mut self, call: Call, read: &[&[u8]], rooms: &[usize]) -> (u32, Vec<Written>) {
         let sheet = refusals::Sheet {
             sizes: u16s(read[0], &mut self.sizes),
             codes: u16s(read[1], &mut self.codes),
@@ -743,20 +773,6 @@ mod tests {
     use super::*;
     use std::collections::BTreeMap;
 
-    const CALLS: [Call; 11] = [
-        Call::Load,
-        Call::SetGoals,
-        Call::Frames,
-        Call::Pose,
-        Call::Manipulability,
-        Call::Reset,
-        Call::Update,
-        Call::Objective,
-        Call::Gradient,
-        Call::GradientFiniteDiff,
-        Call::GradientOneBlock,
-    ];
-
     fn floats(written: Written) -> Vec<f64> {
         match written {
             Floats(floats) => floats,
@@ -782,7 +798,7 @@ mod tests {
     /// All that a call can answer is drawn, and none of it rarely.
     #[test]
     fn every_number_is_drawn() {
-        for call in CALLS {
+        for call in Call::ALL {
             let mut possible = vec![1, 2, 3, 4, 5, 6];
             possible.extend(call.own().contains(&List::Goals).then_some(8));
             if call.own().contains(&List::Joints) {
@@ -807,7 +823,7 @@ mod tests {
         let (mut draw, mut judge) = (Draw::new(5), Judge::default());
         for _ in 0..300 {
             let mut lists = Lists::of(&shape(&mut draw), &mut draw);
-            for call in CALLS {
+            for call in Call::ALL {
                 call.renew(&mut lists, &mut draw);
                 let read = call.read().iter().map(|&list| lists.get(list));
                 let read: Vec<&[u8]> = read.collect();
@@ -882,7 +898,7 @@ mod tests {
     #[test]
     fn one_wrong_byte_is_found() {
         let mut draw = Draw::new(7);
-        for call in CALLS {
+        for call in Call::ALL {
             let (mut trial, mut source) = (Trial::new(call), Source::new(call));
             for _ in 0..200 {
                 let (lists, rooms) = source.next(&mut draw);

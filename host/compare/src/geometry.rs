@@ -25,19 +25,19 @@ pub fn kinds() -> Vec<Kind> {
     ]
 }
 
-fn vector([x, y, z]: [f64; 3]) -> Vector3<f64> {
+pub fn vector([x, y, z]: [f64; 3]) -> Vector3<f64> {
     Vector3::new(x, y, z)
 }
 
-fn unit([w, i, j, k]: [f64; 4]) -> UnitQuaternion<f64> {
+pub fn unit([w, i, j, k]: [f64; 4]) -> UnitQuaternion<f64> {
     UnitQuaternion::new_unchecked(Quaternion::new(w, i, j, k))
 }
 
-fn three(v: Vector3<f64>) -> [f64; 3] {
+pub fn three(v: Vector3<f64>) -> [f64; 3] {
     [v.x, v.y, v.z]
 }
 
-fn four(q: UnitQuaternion<f64>) -> [f64; 4] {
+pub fn four(q: UnitQuaternion<f64>) -> [f64; 4] {
     [q.w, q.i, q.j, q.k]
 }
 
@@ -175,7 +175,7 @@ fn flat(points: [[f64; 3]; 4]) -> [f64; 12] {
     std::array::from_fn(|i| points[i / 3][i % 3])
 }
 
-fn points_of(all: [f64; 12]) -> [[f64; 3]; 4] {
+pub fn points_of(all: [f64; 12]) -> [[f64; 3]; 4] {
     std::array::from_fn(|p| std::array::from_fn(|i| all[3 * p + i]))
 }
 

@@ -4,20 +4,11 @@
 #![forbid(unsafe_code)]
 
 #[cfg(feature = "arms")]
-mod arms;
-mod draw;
-mod geometry;
+use compare::arms;
+use compare::run::{Kind, Run};
+use compare::{geometry, matrices, numbers};
 #[cfg(feature = "objective")]
-mod losses;
-mod matrices;
-mod numbers;
-mod run;
-#[cfg(feature = "arms")]
-mod sheets;
-#[cfg(feature = "objective")]
-mod slopes;
-
-use run::{Kind, Run};
+use compare::{losses, slopes};
 use std::process::ExitCode;
 
 const USAGE: &str = "\

@@ -20,7 +20,7 @@ pub enum List {
 
 use List::{Codes, Floats, Goals, History, Joints, Limits, Sizes};
 
-const LISTS: [List; 7] = [Sizes, Codes, Floats, Limits, Goals, History, Joints];
+pub const LISTS: [List; 7] = [Sizes, Codes, Floats, Limits, Goals, History, Joints];
 
 /// Fixed, then revolute, continuous and prismatic about every axis.
 pub const CODES: [u16; 22] = [
@@ -52,6 +52,28 @@ impl Lists {
 
     pub fn set_floats(&mut self, list: List, floats: &[f64]) {
         put_floats(floats, &mut self.bytes[list as usize]);
+    }
+
+    pub fn set(&mut self, list: List, bytes: &[u8]) {
+        self.bytes[list as usize] = bytes.to_vec();
+    }
+
+    /// Takes the counts from sizes and codes, as far as these reach.
+    pub fn count(&mut self) {
+        let (mut sizes, mut codes) = (Vec::new(), Vec::new());
+        u16s(self.get(Sizes), &mut sizes);
+        u16s(self.get(Codes), &mut codes);
+        let (chains, links) = sizes.split_first().unwrap_or((&0, &[]));
+        let mut left = &codes[..];
+        self.chains = usize::from(*chains).min(links.len());
+        (self.links, self.joints, self.walked) = (0, 0, 0);
+        for &count in &links[..self.chains] {
+            let (chain, rest) = left.split_at(usize::from(count).min(left.len()));
+            self.links += chain.len();
+            self.joints += chain.iter().filter(|&&code| code != 0).count();
+            self.walked += chain.len() + again(chain);
+            left = rest;
+        }
     }
 
     /// Takes over another's, in the memory at hand.

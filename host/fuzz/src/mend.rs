@@ -1,0 +1,228 @@
+//! Makes a case one that is taken, with as much of it kept as can be: what a
+//! change has left too long is cut, what is missing is filled up, and a number
+//! outside of its range is brought in.
+
+use crate::input::{Input, MOST};
+use compare::arms::Call;
+use compare::sheets::{List, Lists, Shape, CODES};
+use proved::{put_floats, put_u16s};
+use reference::refusals::{f64s, u16s};
+use reference::sheet::{GOAL_FLOATS, LINK_FLOATS};
+
+const MOST_CHAINS: usize = 4;
+const MOST_LINKS: usize = 16;
+const MOST_JOINTS: usize = 16;
+const LEAST_JOINTS: usize = 2;
+
+/// A link up 1.
+const LINK: [f64; LINK_FLOATS] = [0.0, 0.0, 1.0, 1.0, 0.0, 0.0, 0.0];
+
+pub fn mend(input: &mut Input) {
+    let lists = &mut input.lists;
+    let shape = mended_shape(shape(lists));
+    set_shape(lists, &shape);
+    set_groups(lists, List::Floats, lists.links, &LINK, mend_link);
+    set_groups(lists, List::Limits, lists.joints, &[-3.0, 3.0], mend_pair);
+    let mut goal = [0.0; GOAL_FLOATS];
+    goal[3] = 1.0;
+    set_groups(lists, List::Goals, lists.chains, &goal, mend_goal);
+    let joints = lists.joints;
+    set_groups(lists, List::History, 4 * joints, &[0.0], |joint| {
+        clamp(joint, 8.0)
+    });
+    set_groups(lists, List::Joints, joints, &[0.0], |joint| {
+        clamp(joint, 8.0)
+    });
+    make_room(input);
+}
+
+/// The codes of each chain, as far as sizes and codes tell.
+fn shape(lists: &Lists) -> Shape {
+    let (mut sizes, mut codes) = (Vec::new(), Vec::new());
+    u16s(lists.get(List::Sizes), &mut sizes);
+    u16s(lists.get(List::Codes), &mut codes);
+    let mut left = codes.into_iter();
+    let chains = sizes.iter().skip(1).take(MOST_CHAINS);
+    chains
+        .map(|&links| {
+            left.by_ref()
+                .take(usize::from(links).min(MOST_LINKS))
+                .collect()
+        })
+        .collect()
+}
+
+fn mended_shape(mut shape: Shape) -> Shape {
+    if shape.is_empty() {
+        shape.push(Vec::new());
+    }
+    let (mut spare, first) = (MOST_JOINTS - LEAST_JOINTS * shape.len(), shape[0].len());
+    for (at, chain) in shape.iter_mut().enumerate() {
+        // Every pair of a later chain looks at chain 0's links.
+        let own = if at == 0 {
+            MOST_JOINTS
+        } else {
+            first.max(LEAST_JOINTS)
+        };
+        let joints = mend_chain(chain, own.min(LEAST_JOINTS + spare));
+        spare -= joints - LEAST_JOINTS;
+    }
+    shape
+}
+
+/// With listed codes, and at least two and at most so many joints; answers how
+/// many.
+fn mend_chain(chain: &mut Vec<u16>, most: usize) -> usize {
+    let mut joints = 0;
+    for code in chain.iter_mut() {
+        if !CODES.contains(code) {
+            *code = CODES[usize::from(*code) % CODES.len()];
+        }
+        if *code != 0 && joints == most {
+            *code = 0;
+        }
+        joints += usize::from(*code != 0);
+    }
+    if joints < LEAST_JOINTS {
+        chain.fill(0);
+        chain.truncate(MOST_LINKS - LEAST_JOINTS);
+        chain.extend([13, 12]);
+    }
+    joints.max(LEAST_JOINTS)
+}
+
+fn set_shape(lists: &mut Lists, shape: &Shape) {
+    let mut sizes = vec![shape.len() as u16];
+    sizes.extend(shape.iter().map(|chain| chain.len() as u16));
+    let mut bytes = Vec::new();
+    put_u16s(&sizes, &mut bytes);
+    lists.set(List::Sizes, &bytes);
+    put_u16s(&shape.concat(), &mut bytes);
+    lists.set(List::Codes, &bytes);
+    lists.count();
+}
+
+/// So many groups of floats: those that are there, mended, then `filler`.
+fn set_groups<const N: usize>(
+    lists: &mut Lists,
+    list: List,
+    count: usize,
+    filler: &[f64; N],
+    mend: fn(&mut [f64]),
+) {
+    let mut floats = Vec::new();
+    f64s(lists.get(list), &mut floats);
+    floats.truncate(floats.len() / N * N);
+    floats.truncate(count * N);
+    while floats.len() < count * N {
+        floats.extend_from_slice(filler);
+    }
+    floats.chunks_exact_mut(N).for_each(mend);
+    let mut bytes = Vec::new();
+    put_floats(&floats, &mut bytes);
+    lists.set(list, &bytes);
+}
+
+/// Into the range of that size; a NaN becomes 0.
+fn clamp(values: &mut [f64], size: f64) {
+    for value in values {
+        *value = if value.is_nan() {
+            0.0
+        } else {
+            value.clamp(-size, size)
+        };
+    }
+}
+
+fn mend_link(link: &mut [f64]) {
+    clamp(&mut link[..3], 10.0);
+    mend_turn(&mut link[3..]);
+}
+
+fn mend_goal(goal: &mut [f64]) {
+    clamp(&mut goal[..3], 100.0);
+    mend_turn(&mut goal[3..7]);
+    clamp(&mut goal[7..], 100.0);
+}
+
+fn is_turn(q: &[f64]) -> bool {
+    let sum = q[0] * q[0] + q[1] * q[1] + q[2] * q[2] + q[3] * q[3];
+    (0.999999999..=1.000000001).contains(&sum)
+}
+
+fn mend_turn(q: &mut [f64]) {
+    if !is_turn(q) {
+        let size = q.iter().map(|c| c * c).sum::<f64>().sqrt();
+        q.iter_mut().for_each(|c| *c /= size);
+    }
+    if !is_turn(q) {
+        q.copy_from_slice(&[1.0, 0.0, 0.0, 0.0]);
+    }
+}
+
+fn mend_pair(pair: &mut [f64]) {
+    if *pair != [-999.0, 999.0] {
+        clamp(pair, 100.0);
+        if pair[1] - pair[0] < 0.001 {
+            pair.copy_from_slice(&[-3.0, 3.0]);
+        }
+    }
+}
+
+/// Outputs that are too short, or ragged, become as long as is needed.
+fn make_room(input: &mut Input) {
+    let call: Call = input.call;
+    for (at, numbers) in call.needs(&input.lists).into_iter().enumerate() {
+        let (room, unit) = (&mut input.rooms[at], call.unit(at));
+        if *room < unit * numbers || *room % unit != 0 {
+            *room = (unit * numbers).min(MOST);
+        }
+    }
+}
+
+#[cfg(test)]
+mod tests {
+    use super::*;
+    use crate::mutate::{change, drawn};
+    use compare::arms::Judge;
+    use compare::draw::Draw;
+
+    /// Whatever a case has become, it is taken once it is mended; and mending
+    /// it again changes nothing.
+    #[test]
+    fn a_mended_case_is_taken() {
+        let (mut draw, mut judge) = (Draw::new(5), Judge::default());
+        let mut input = drawn(Call::GradientOneBlock, &mut draw);
+        for _ in 0..2_000 {
+            change(&mut input, &mut draw, |bytes| bytes.extend([7, 255, 240]));
+            let mut mended = Input::read(&input.bytes());
+            mend(&mut mended);
+            let (number, _) = judge.answer(mended.call, &mended.read_lists(), &mended.rooms);
+            assert_eq!(number, 0, "{mended}");
+            let bytes = mended.bytes();
+            mend(&mut mended);
+            assert_eq!(mended.bytes(), bytes);
+        }
+    }
+
+    /// What is taken already is left alone.
+    #[test]
+    fn a_good_case_is_kept() {
+        let (mut draw, mut judge) = (Draw::new(5), Judge::default());
+        let mut good = 0;
+        for _ in 0..2_000 {
+            let mut input = drawn(draw.pick(&Call::ALL), &mut draw);
+            if judge
+                .answer(input.call, &input.read_lists(), &input.rooms)
+                .0
+                == 0
+            {
+                let bytes = input.bytes();
+                mend(&mut input);
+                assert_eq!(input.bytes(), bytes);
+                good += 1;
+            }
+        }
+        assert!(good > 800, "{good}");
+    }
+}
