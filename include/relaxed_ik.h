@@ -1,7 +1,7 @@
-/* The proved library from C (C99) and C++.
+/* The proved library for x86-64 Linux, from C (C99) and C++.
  *
  * Lists. A list crosses as a pointer and a length in bytes. u16s take two bytes each and floats (IEEE 754 binary64) eight, the lowest byte
- * first; on a little-endian processor that is how uint16_t and double lie in memory, so an array of them can be lent as it is.
+ * first; on x86-64 that is how uint16_t and double lie in memory, so an array of them can be lent as it is.
  *
  *   sizes      u16s: the number of chains, then the links of each chain
  *   codes      a u16 for each link: 0 fixed; 10, 20, 30 plus axis for revolute, continuous, prismatic; axis 0 none, 1 to 3 x, y, z, 4 to 6
@@ -15,12 +15,13 @@
  * Lists named const are only read. Of the others the front is written; a longer list keeps its tail, and its length must be a whole number
  * of elements all the same.
  *
- * Answers. A call on lists answers 0 if it was taken, or the number of the refusal, and then it has written nothing. Where several refusals
+ * Answers. A call on lists answers 0 if it was taken, or the number of the refusal, and then every list is as it was. Where several refusals
  * hold, the lowest is the answer. The calls keep no state: everything is lent each time, and the answer depends on nothing else.
  *
  * What the caller sees to: each list is there in full for its length; no list that is written shares a byte with another list of the call;
  * nobody else writes to any of them while the call runs; no pointer is null, not even with length 0. Lists need no alignment. Calls may run
- * side by side as long as none writes to another's list. Nothing is allocated.
+ * side by side as long as none writes to another's list. The processor rounds to nearest, takes subnormals as they are and traps no
+ * floating-point exception, as a C program starts. Nothing is allocated.
  */
 #ifndef RELAXED_IK_H
 #define RELAXED_IK_H

@@ -12,7 +12,7 @@ static volatile unsigned char *lowest;
 
 static uint16_t sizes[2] = {1, JOINTS}, codes[JOINTS], record_joints[400], record_links[400];
 static double floats[7 * JOINTS], limits[2 * JOINTS], goals[13], history[4 * JOINTS], joints[JOINTS];
-static double value[1], slopes[JOINTS], scratch[JOINTS], positions[3 * (JOINTS + 1)], rotations[4 * (JOINTS + 2)], record_poses[2800];
+static double value[1], ends[7], blocks[4 * JOINTS], slopes[JOINTS], scratch[JOINTS], positions[3 * (JOINTS + 1)], rotations[4 * (JOINTS + 2)], record_poses[2800];
 
 #define LIST(a) (const uint8_t *)(a), sizeof(a)
 #define OUT(a) (uint8_t *)(a), sizeof(a)
@@ -59,9 +59,16 @@ int main(void)
     goals[3] = 1;
     goals[8] = 0.1;
     goals[11] = 3.2;
+    /* Once before: the first call of memset and memcpy looks them up, on the caller's stack. */
+    relaxed_ik_load(SHEET);
+    relaxed_ik_gradient(STATE, OUT(scratch), OUT(value), OUT(slopes));
     MEASURE("load", relaxed_ik_load(SHEET));
+    MEASURE("set_goals", relaxed_ik_set_goals(SHEET, LIST(goals)));
     MEASURE("frames", relaxed_ik_frames(SHEET, LIST(joints), OUT(positions), OUT(rotations)));
+    MEASURE("pose", relaxed_ik_pose(SHEET, LIST(joints), OUT(ends)));
     MEASURE("manipulability", relaxed_ik_manipulability(SHEET, LIST(joints), OUT(value)));
+    MEASURE("reset", relaxed_ik_reset(SHEET, LIST(joints), OUT(blocks), OUT(ends)));
+    MEASURE("update", relaxed_ik_update(SHEET, LIST(history), LIST(joints), OUT(blocks)));
     MEASURE("objective", relaxed_ik_objective(STATE, OUT(value)));
     MEASURE("gradient", relaxed_ik_gradient(STATE, OUT(scratch), OUT(value), OUT(slopes)));
     MEASURE("gradient_finite_diff", relaxed_ik_gradient_finite_diff(STATE, OUT(scratch), OUT(value), OUT(slopes)));

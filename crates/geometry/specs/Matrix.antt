@@ -51,10 +51,6 @@ swapCount k p = cond (eqb k p) 0 1
 unfoldable pub eliminatedOf : List Float → ℕ → ℕ → ℕ → Float
 eliminatedOf m k i j = entry m i j ⊖ (entry m i k ⊘ entry m k k) ⊗ entry m k j
 
--- row i loses
-unfoldable pub eliminateRowOf : List Float → ℕ → ℕ → List Float
-eliminateRowOf m k i = matrixOf (λ r j. cond (eqb r i) (eliminatedOf m k r j) (entry m r j))
-
 -- each row below k loses
 unfoldable pub eliminateOf : List Float → ℕ → List Float
 eliminateOf m k = matrixOf (λ i j. cond (ltb k i) (eliminatedOf m k i j) (entry m i j))
@@ -94,9 +90,13 @@ sumOf js r s = sumTo js r s (length js / 6)
 unfoldable pub gramOf : List Float → List Float
 gramOf js = matrixOf (sumOf js)
 
--- ---- its sums, column after column: what the code's loops leave
+-- ---- what the code's loops leave on the way
 
--- row r's entry in column s of m, plus column c's (row r's entry)·(row s's entry)
+-- of the determinant: row i loses
+unfoldable pub eliminateRowOf : List Float → ℕ → ℕ → List Float
+eliminateRowOf m k i = matrixOf (λ r j. cond (eqb r i) (eliminatedOf m k r j) (entry m r j))
+
+-- of the product: row r's entry in column s of m, plus column c's (row r's entry)·(row s's entry)
 unfoldable pub addedOf : List Float → List Float → ℕ → ℕ → ℕ → Float
 addedOf m js c r s = entry m r s ⊕ getD js (6 * c + r) nan ⊗ getD js (6 * c + s) nan
 

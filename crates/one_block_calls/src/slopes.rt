@@ -46,7 +46,7 @@ fn one_block_refusal(
     lent::first_of(seven, lent::first_of(room, record))
 }
 
-// Each objective's slope by a step of 1e-7. The block ends with the bits it came with, refused or not.
+// Each objective's slope by a step of 1e-7. The block ends as it came, refused or not.
 pub fn gradient_one_block(
     weights: &[f64],
     sizes: &[u16],

@@ -71,7 +71,7 @@ fn gradient_one_block_on(
     )
 }
 
-// Each objective's slope along each joint by a step of 1e-7, weighted and added, and the objective at the block. The block ends with the bits it came with, refused or not.
+// Each objective's slope along each joint by a step of 1e-7, weighted and added, and the objective at the block. The block ends as it came, refused or not.
 pub fn gradient_one_block(
     state: State,
     block: &mut [f64],

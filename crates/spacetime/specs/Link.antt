@@ -46,7 +46,7 @@ turnOf a v =
     (quatIf (eqb (a % 3) 2) (quatYOf (signedBy a v))
     (quatZOf (signedBy a v)))
 
--- a joint's turn at v; a link that does not turn has none to add
+-- a joint's turn at v, which axis none takes no notice of (`aboutOf`); a link that does not turn has none to add
 unfoldable pub jointTurn : Kind → Float → Quat
 jointTurn Fixed v = identityOf
 jointTurn Unlisted v = identityOf

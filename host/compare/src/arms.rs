@@ -4,8 +4,11 @@
 //! between the lists.
 
 use crate::draw::Draw;
-use crate::run::{matches, Kind, Run};
-use crate::sheets::{damages, refused_shape, shape, Damage, Fit, List, Lists, Shape, CODES};
+use crate::found::Found;
+use crate::run::{matches, Run};
+use crate::sheets::{damages, Damage, Fit, List, Lists, Shape, CODES};
+use crate::source::{Source, READ, WRITTEN};
+use crate::target::{Target, ARMS};
 #[cfg(feature = "objective")]
 use proved::objective;
 use proved::{arms, put_floats, put_u16s};
@@ -14,7 +17,6 @@ use reference::groove::vars::RelaxedIKVars;
 use reference::record::record;
 use reference::refusals::{self, f64s, u16s, RecordRoom, Room};
 use reference::sheet;
-use std::fmt::Write as _;
 use std::ops::Range;
 
 // The reference answers every call; the feature says which ones the library
@@ -35,20 +37,39 @@ pub enum Call {
     GradientOneBlock,
 }
 
-pub fn kinds() -> Vec<Kind> {
-    let kind = Kind::new;
+#[cfg(test)]
+pub const CALLS: [Call; 11] = [
+    Call::Load,
+    Call::SetGoals,
+    Call::Frames,
+    Call::Pose,
+    Call::Manipulability,
+    Call::Reset,
+    Call::Update,
+    Call::Objective,
+    Call::Gradient,
+    Call::GradientFiniteDiff,
+    Call::GradientOneBlock,
+];
+
+pub fn targets() -> Vec<Target> {
+    let arms = |name, about, kinds, run| Target::new(name, about, ARMS, kinds, run);
     vec![
-        kind("load", "loading arms", |run| all(run, Call::Load)),
-        kind("set_goals", "setting goals", |run| all(run, Call::SetGoals)),
-        kind("frames", "positions and rotations", |run| {
+        arms("load", "loading arms", READ, |run| all(run, Call::Load)),
+        arms("set_goals", "setting goals", READ, |run| {
+            all(run, Call::SetGoals)
+        }),
+        arms("frames", "positions and rotations", WRITTEN, |run| {
             all(run, Call::Frames)
         }),
-        kind("pose", "end poses", |run| all(run, Call::Pose)),
-        kind("manipulability", "manipulability", |run| {
+        arms("pose", "end poses", WRITTEN, |run| all(run, Call::Pose)),
+        arms("manipulability", "manipulability", WRITTEN, |run| {
             all(run, Call::Manipulability)
         }),
-        kind("reset", "reset of the history", |run| all(run, Call::Reset)),
-        kind("update", "update of the history", |run| {
+        arms("reset", "reset of the history", WRITTEN, |run| {
+            all(run, Call::Reset)
+        }),
+        arms("update", "update of the history", WRITTEN, |run| {
             all(run, Call::Update)
         }),
     ]
@@ -97,13 +118,18 @@ impl Call {
         }
     }
 
+    /// What they hold.
+    pub fn lent(self, lists: &Lists) -> Vec<&[u8]> {
+        self.read().iter().map(|&list| lists.get(list)).collect()
+    }
+
     /// Those after the sheet's.
-    fn own(self) -> &'static [List] {
+    pub fn own(self) -> &'static [List] {
         &self.read()[4..]
     }
 
     /// Whether it looks how far joints are from goals and history.
-    fn aims(self) -> bool {
+    pub fn aims(self) -> bool {
         matches!(
             self,
             Call::Objective | Call::Gradient | Call::GradientFiniteDiff | Call::GradientOneBlock
@@ -415,9 +441,13 @@ impl Memory {
     }
 }
 
+/// Answers a call on these lists: the proved library, or in tests a wrong one.
+type Ask = fn(Call, &[&[u8]], &mut [&mut [u8]]) -> u32;
+
 /// What one case needs and the next one can use again.
-struct Trial {
+pub struct Trial {
     call: Call,
+    ask: Ask,
     judge: Judge,
     read: Memory,
     read_before: Vec<u8>,
@@ -428,9 +458,10 @@ struct Trial {
 }
 
 impl Trial {
-    fn new(call: Call) -> Self {
+    pub fn new(call: Call, ask: Ask) -> Self {
         Self {
             call,
+            ask,
             judge: Judge::default(),
             read: Memory::default(),
             read_before: Vec::new(),
@@ -440,20 +471,20 @@ impl Trial {
         }
     }
 
-    fn check(&mut self, run: &mut Run, lists: &Lists, rooms: &[usize]) {
+    pub fn check(&mut self, run: &mut Run, lists: &Lists, rooms: &[usize]) {
         let (number, written) = self.prepare(&mut run.draw, lists, rooms);
-        let answered = self.call.ask(&self.read.lists(), &mut self.write.rooms());
+        let answered = (self.ask)(self.call, &self.read.lists(), &mut self.write.rooms());
         let same = self.same(answered, number, &written);
         run.answer(number);
-        run.case(same, || self.describe(answered, number));
+        run.case(same, || self.found(answered, number, &written).show());
     }
 
     /// Lays the lists out, and what the outputs are to hold; answers as the
     /// judge does.
     fn prepare(&mut self, draw: &mut Draw, lists: &Lists, rooms: &[usize]) -> (u32, Vec<Written>) {
         self.read.clear();
-        for &list in self.call.read() {
-            self.read.add(lists.get(list), draw);
+        for list in self.call.lent(lists) {
+            self.read.add(list, draw);
         }
         self.read.gap(draw);
         self.read_before.clone_from(&self.read.bytes);
@@ -502,124 +533,42 @@ impl Trial {
         self.write.bytes == self.expected
     }
 
-    /// Everything lent, so that a case can be run again, and what differs.
-    fn describe(&self, answered: u32, number: u32) -> String {
-        let mut text = format!("  answered: proved {answered}, reference {number}\n");
-        for (list, place) in self.call.read().iter().zip(&self.read.places) {
-            let bytes = &self.read_before[place.clone()];
-            let _ = write!(text, "  {list:?}, {} bytes:", bytes.len());
-            if matches!(list, List::Sizes | List::Codes) {
-                for b in bytes.chunks_exact(2) {
-                    let _ = write!(text, " {}", u16::from_le_bytes([b[0], b[1]]));
-                }
-            } else {
-                for (at, b) in bytes.chunks_exact(8).enumerate() {
-                    let v = f64::from_le_bytes(b.try_into().expect("eight bytes"));
-                    let _ = write!(text, "\n    {at:<3} {:016x} {v:e}", v.to_bits());
-                }
-            }
-            text.push('\n');
-        }
-        if self.read.bytes != self.read_before {
-            text.push_str("  a list lent for reading was changed\n");
-        }
-        for (at, place) in self.write.places.iter().enumerate() {
-            let _ = writeln!(text, "  output {at}, {} bytes", place.len());
-            let both = |here: Range<usize>| (&self.write.bytes[here.clone()], &self.expected[here]);
-            let unit = self.call.unit(at);
-            for start in place.clone().step_by(unit) {
-                let (got, wanted) = both(start..place.end.min(start + unit));
-                if got != wanted {
-                    let number = (start - place.start) / unit;
-                    let _ = writeln!(
-                        text,
-                        "    {number:<3} proved {}, reference {}",
-                        shown(got),
-                        shown(wanted)
-                    );
-                }
-            }
-        }
+    /// What was lent, answered and left.
+    fn found<'a>(&'a self, answered: u32, number: u32, written: &'a [Written]) -> Found<'a> {
+        let part = |bytes: &'a [u8]| move |place: &Range<usize>| &bytes[place.clone()];
         let inside = |at: &usize| self.write.places.iter().any(|place| place.contains(at));
-        if (0..self.expected.len())
-            .filter(|at| !inside(at))
-            .any(|at| self.write.bytes[at] != self.expected[at])
-        {
-            text.push_str("  a byte outside of the outputs was written\n");
+        let mut outside = (0..self.expected.len()).filter(|at| !inside(at));
+        Found {
+            call: self.call,
+            numbers: [answered, number],
+            read: self
+                .read
+                .places
+                .iter()
+                .map(part(&self.read_before))
+                .collect(),
+            got: self
+                .write
+                .places
+                .iter()
+                .map(part(&self.write.bytes))
+                .collect(),
+            expected: self.write.places.iter().map(part(&self.expected)).collect(),
+            written,
+            read_changed: self.read.bytes != self.read_before,
+            outside_changed: outside.any(|at| self.write.bytes[at] != self.expected[at]),
         }
-        text
-    }
-}
-
-/// Bits and value of a float, or a u16; bytes that are neither as they are.
-fn shown(bytes: &[u8]) -> String {
-    if let Ok(eight) = bytes.try_into() {
-        let v = f64::from_le_bytes(eight);
-        format!("{:016x} {v:e}", v.to_bits())
-    } else if let Ok(two) = bytes.try_into() {
-        u16::from_le_bytes(two).to_string()
-    } else {
-        format!("{bytes:02x?}")
-    }
-}
-
-/// Where drawn cases come from. A sheet serves for several of them.
-pub struct Source {
-    call: Call,
-    damages: Vec<Damage>,
-    base: Lists,
-    left: usize,
-    lists: Lists,
-}
-
-impl Source {
-    pub fn new(call: Call) -> Self {
-        Self {
-            call,
-            damages: damages(call.read()),
-            base: Lists::default(),
-            left: 0,
-            lists: Lists::default(),
-        }
-    }
-
-    /// The next case's lists and the lengths of its outputs.
-    pub fn next(&mut self, draw: &mut Draw) -> (&Lists, Vec<usize>) {
-        if self.left == 0 {
-            (self.base, self.left) = match draw.word() % 8 {
-                0 => (Lists::of(&refused_shape(draw), draw), 4),
-                1 => (Lists::still(&shape(draw), draw), 8),
-                _ => (Lists::of(&shape(draw), draw), 16),
-            };
-        }
-        self.left -= 1;
-        self.lists.copy(&self.base);
-        self.call.renew(&mut self.lists, draw);
-        let faults = draw.pick(&[0, 0, 0, 0, 0, 1, 1, 2, 3]);
-        for _ in 0..faults {
-            let damage = draw.pick(&self.damages);
-            self.lists.spoil(damage, draw);
-        }
-        let needs = self.call.needs(&self.lists);
-        let rooms = needs.into_iter().enumerate().map(|(at, numbers)| {
-            let fit = match draw.word() % 16 {
-                0 => draw.pick(&Fit::ALL),
-                1..=4 => Fit::Long,
-                _ => Fit::Exact,
-            };
-            fit.bytes(numbers, self.call.unit(at))
-        });
-        let rooms = rooms.collect();
-        (&self.lists, rooms)
     }
 }
 
 pub fn all(run: &mut Run, call: Call) {
-    let mut trial = Trial::new(call);
-    named(run, &mut trial);
-    every_code(run, &mut trial);
-    every_fault(run, &mut trial);
-    let mut source = Source::new(call);
+    let mut trial = Trial::new(call, Call::ask);
+    if run.edges() {
+        named(run, &mut trial);
+        every_code(run, &mut trial);
+        every_fault(run, &mut trial);
+    }
+    let mut source = Source::new(call, run.kind);
     while run.more() {
         let (lists, rooms) = source.next(&mut run.draw);
         trial.check(run, lists, &rooms);
@@ -631,7 +580,7 @@ pub fn exact(call: Call, lists: &Lists) -> Vec<usize> {
 }
 
 /// Lengths of these fits, the remaining outputs exact.
-fn fitted(call: Call, lists: &Lists, fits: &[Fit]) -> Vec<usize> {
+pub fn fitted(call: Call, lists: &Lists, fits: &[Fit]) -> Vec<usize> {
     let fits = fits.iter().copied().chain(std::iter::repeat(Fit::Exact));
     let needs = call.needs(lists).into_iter().zip(fits).enumerate();
     needs
@@ -714,7 +663,8 @@ fn every_code(run: &mut Run, trial: &mut Trial) {
 /// length, alone and with every fault.
 fn every_fault(run: &mut Run, trial: &mut Trial) {
     let call = trial.call;
-    let damages = damages(call.read());
+    let damages = damages(call.read()).into_iter();
+    let damages: Vec<Damage> = damages.map(|(_, damage)| damage).collect();
     let shapes: [Shape; 4] = [
         vec![vec![13, 12]],
         vec![vec![0, 13, 12, 11, 36, 23, 15, 16, 0]],
@@ -771,50 +721,8 @@ fn fits(outputs: usize) -> Vec<Vec<Fit>> {
 #[cfg(test)]
 mod tests {
     use super::*;
-    use std::collections::BTreeMap;
-
-    fn floats(written: Written) -> Vec<f64> {
-        match written {
-            Floats(floats) => floats,
-            U16s(_) => panic!("no floats"),
-        }
-    }
-
-    /// Draws by the reference's answer, with what it would write last.
-    fn drawn(call: Call, cases: usize) -> (BTreeMap<u32, usize>, Vec<Vec<f64>>) {
-        let (mut draw, mut source) = (Draw::new(5), Source::new(call));
-        let (mut judge, mut answers, mut last) = (Judge::default(), BTreeMap::new(), Vec::new());
-        for _ in 0..cases {
-            let (lists, rooms) = source.next(&mut draw);
-            let read = call.read().iter().map(|&list| lists.get(list));
-            let read: Vec<&[u8]> = read.collect();
-            let (number, written) = judge.answer(call, &read, &rooms);
-            *answers.entry(number).or_default() += 1;
-            last.extend(written.into_iter().next_back().map(floats));
-        }
-        (answers, last)
-    }
-
-    /// All that a call can answer is drawn, and none of it rarely.
-    #[test]
-    fn every_number_is_drawn() {
-        for call in Call::ALL {
-            let mut possible = vec![1, 2, 3, 4, 5, 6];
-            possible.extend(call.own().contains(&List::Goals).then_some(8));
-            if call.own().contains(&List::Joints) {
-                possible.extend([7, 9]);
-            }
-            // Slopes take their time.
-            let cases = if call.aims() { 4_000 } else { 20_000 };
-            let (answers, _) = drawn(call, cases);
-            for number in &possible {
-                let met = answers[number];
-                assert!(met > cases / 200, "{call:?} {number}: {answers:?}");
-            }
-            assert!(answers[&0] > cases * 2 / 5, "{call:?}: {answers:?}");
-            assert_eq!(answers.len(), possible.len() + 1, "{call:?}");
-        }
-    }
+    use crate::sheets::shape;
+    use crate::source::kinds;
 
     /// The lengths that are taken are those of what the published functions
     /// give, and no shorter ones.
@@ -825,8 +733,7 @@ mod tests {
             let mut lists = Lists::of(&shape(&mut draw), &mut draw);
             for call in Call::ALL {
                 call.renew(&mut lists, &mut draw);
-                let read = call.read().iter().map(|&list| lists.get(list));
-                let read: Vec<&[u8]> = read.collect();
+                let read = call.lent(&lists);
                 let mut rooms = exact(call, &lists);
                 let (number, written) = judge.answer(call, &read, &rooms);
                 let mut bytes = Vec::new();
@@ -851,19 +758,11 @@ mod tests {
         }
     }
 
-    /// The cut to 0..1 hides a wrong Jacobian, so many must lie inside.
-    #[test]
-    fn manipulability_is_often_inside_the_cut() {
-        let (_, values) = drawn(Call::Manipulability, 20_000);
-        let inside = values.iter().filter(|v| v[0] > 0.0 && v[0] < 1.0).count();
-        assert!(inside > values.len() / 10, "{inside} of {}", values.len());
-    }
-
     #[test]
     fn a_nan_matches_a_nan_where_it_is_written() {
         let nans = [f64::NAN, -f64::NAN].map(f64::to_le_bytes);
         let case = |got: [[u8; 8]; 2], expected: [[u8; 8]; 2]| {
-            let mut trial = Trial::new(Call::Manipulability);
+            let mut trial = Trial::new(Call::Manipulability, Call::ask);
             trial.write.bytes = got.concat();
             trial.write.places.push(0..16);
             trial.expected = expected.concat();
@@ -878,20 +777,6 @@ mod tests {
         assert!(!case([0.0f64.to_le_bytes(), one], [one, one]));
     }
 
-    /// Far out the losses are all tail; a good part must lie near its goals,
-    /// and nothing that is taken makes a NaN.
-    #[test]
-    fn objectives_are_often_near_their_goals() {
-        let (_, values) = drawn(Call::Objective, 4_000);
-        let near = values.iter().filter(|v| v[0] < 0.0).count();
-        let middle = values.iter().filter(|v| (0.0..1e4).contains(&v[0])).count();
-        let far = values.len() - near - middle;
-        let least = values.len() / 20;
-        assert!(near > least, "{near}, {middle}, {far}");
-        assert!(middle > least && far > least, "{near}, {middle}, {far}");
-        assert!(values.iter().all(|v| v[0].is_finite()));
-    }
-
     /// A case as a right call leaves it is found the same; one byte changed in
     /// an output, a tail, a gap or a list that is read, or another number, is
     /// found.
@@ -899,24 +784,34 @@ mod tests {
     fn one_wrong_byte_is_found() {
         let mut draw = Draw::new(7);
         for call in Call::ALL {
-            let (mut trial, mut source) = (Trial::new(call), Source::new(call));
-            for _ in 0..200 {
-                let (lists, rooms) = source.next(&mut draw);
-                let (number, written) = trial.prepare(&mut draw, lists, &rooms);
-                trial.write.bytes.clone_from(&trial.expected);
-                assert!(trial.same(number, number, &written), "{call:?}");
-                assert!(!trial.same(number + 1, number, &written), "{call:?}");
-                let at = draw.below(trial.expected.len());
-                trial.write.bytes[at] ^= 1;
-                let text = trial.describe(number, number);
-                assert!(!trial.same(number, number, &written), "{call:?}");
-                assert!(text.contains("proved") || text.contains("outside"));
-                trial.write.bytes[at] ^= 1;
-                let at = draw.below(trial.read_before.len());
-                trial.read.bytes[at] ^= 1;
-                assert!(!trial.same(number, number, &written), "{call:?}");
+            let mut trial = Trial::new(call, Call::ask);
+            for (kind, _) in kinds(call) {
+                let mut source = Source::new(call, *kind);
+                for _ in 0..20 {
+                    let (lists, rooms) = source.next(&mut draw);
+                    let (number, written) = trial.prepare(&mut draw, lists, &rooms);
+                    trial.write.bytes.clone_from(&trial.expected);
+                    assert!(trial.same(number, number, &written), "{call:?}");
+                    assert!(!trial.same(number + 1, number, &written), "{call:?}");
+                    wrong_bytes(&mut trial, &mut draw, number, &written);
+                }
             }
         }
+    }
+
+    fn wrong_bytes(trial: &mut Trial, draw: &mut Draw, number: u32, written: &[Written]) {
+        let at = draw.below(trial.expected.len());
+        trial.write.bytes[at] ^= 1;
+        let shown = trial.found(number, number, written).show();
+        assert!(!trial.same(number, number, written), "{:?}", trial.call);
+        let told = |line: &str| line.starts_with("#   ") || line.contains("outside");
+        assert!(shown.text().lines().any(told), "{}", shown.text());
+        trial.write.bytes[at] ^= 1;
+        let at = draw.below(trial.read_before.len());
+        trial.read.bytes[at] ^= 1;
+        let shown = trial.found(number, number, written).show();
+        assert!(!trial.same(number, number, written), "{:?}", trial.call);
+        assert!(shown.text().contains("for reading was changed"));
     }
 
     /// Every two outputs meet with every two fits.

@@ -1,6 +1,8 @@
 //! Where inputs come from: a small seeded generator, the edges every leaf is
 //! asked, and ways to draw floats, quaternions and vectors.
 
+use crate::target::Kind;
+
 /// SplitMix64: quick, and every seed will do.
 pub struct Draw {
     state: u64,
@@ -190,45 +192,62 @@ impl Draw {
         std::array::from_fn(|_| self.any())
     }
 
-    /// A vector with sizes as in an arm's frames.
-    pub fn vector(&mut self) -> [f64; 3] {
-        match self.word() % 8 {
-            0 => std::array::from_fn(|_| self.pick(&SIGNS)),
-            1 => std::array::from_fn(|_| self.small(60)),
-            2 => std::array::from_fn(|_| self.between(-160.0, 160.0)),
-            3 => self.anys(),
+    /// The kind, or as often numbers in range: so arguments of both meet.
+    pub fn mixed(&mut self, kind: Kind) -> Kind {
+        self.pick(&[kind, Kind::Range])
+    }
+
+    /// In range: sizes as in an arm's frames.
+    pub fn vector(&mut self, kind: Kind) -> [f64; 3] {
+        match (kind, self.word() % 4) {
+            (Kind::Signs, _) => std::array::from_fn(|_| self.pick(&SIGNS)),
+            (Kind::Small, _) => std::array::from_fn(|_| self.small(60)),
+            (Kind::Any, _) => self.anys(),
+            (_, 0) => std::array::from_fn(|_| self.between(-160.0, 160.0)),
             _ => std::array::from_fn(|_| self.between(-10.0, 10.0)),
         }
     }
 
-    /// Mostly of length 1 as near as floats allow; now and then with w of
-    /// either zero or negative, with no turn, or of any floats at all.
-    pub fn quaternion(&mut self) -> [f64; 4] {
-        let mut q: [f64; 4] = std::array::from_fn(|_| self.between(-1.0, 1.0));
-        match self.word() % 16 {
-            0 => q[0] = 0.0,
-            1 => q[0] = -0.0,
-            2 => q = [self.pick(&[1.0, -1.0]), 0.0, -0.0, 0.0],
-            3 => return std::array::from_fn(|_| self.pick(&CORNERS)),
-            4 => return self.anys(),
-            5 => {
+    /// Of length 1 as near as floats allow, but for any floats at all. In range:
+    /// about any axis, now and then about x, y or z. Small: hardly a turn.
+    pub fn quaternion(&mut self, kind: Kind) -> [f64; 4] {
+        let [w, i, j, k]: [f64; 4] = std::array::from_fn(|_| self.between(-1.0, 1.0));
+        match (kind, self.word() % 8) {
+            (Kind::Signs, _) => self.quaternion_of_signs([w, i, j, k]),
+            (Kind::Small, _) => {
                 let scale = self.small(600);
-                q = [q[0], q[1] * scale, q[2] * scale, q[3] * scale];
+                normal([w, i * scale, j * scale, k * scale])
             }
-            6 => {
-                let at = 1 + self.below(3);
-                q = [q[0], 0.0, 0.0, 0.0];
-                q[at] = self.between(-1.0, 1.0);
+            (Kind::Any, 0..4) => std::array::from_fn(|_| self.pick(&CORNERS)),
+            (Kind::Any, _) => self.anys(),
+            (_, 0) => {
+                let mut q = [w, 0.0, 0.0, 0.0];
+                q[1 + self.below(3)] = i;
+                normal(q)
             }
-            7 => q = std::array::from_fn(|_| self.pick(&CORNERS[..8])),
-            _ => {}
+            _ => normal([w, i, j, k]),
         }
-        let size = (q[0] * q[0] + q[1] * q[1] + q[2] * q[2] + q[3] * q[3]).sqrt();
-        if size > 0.0 {
-            q.map(|c| c / size)
-        } else {
-            q
+    }
+
+    /// With w a zero of either sign, without turn, or with zeros among parts of
+    /// equal size.
+    fn quaternion_of_signs(&mut self, [_, i, j, k]: [f64; 4]) -> [f64; 4] {
+        match self.word() % 4 {
+            0 => normal([0.0, i, j, k]),
+            1 => normal([-0.0, i, j, k]),
+            2 => [self.pick(&[1.0, -1.0]), 0.0, -0.0, 0.0],
+            _ => normal(std::array::from_fn(|_| self.pick(&CORNERS[..8]))),
         }
+    }
+}
+
+/// Of length 1, if it has one.
+fn normal(q: [f64; 4]) -> [f64; 4] {
+    let size = (q[0] * q[0] + q[1] * q[1] + q[2] * q[2] + q[3] * q[3]).sqrt();
+    if size > 0.0 {
+        q.map(|c| c / size)
+    } else {
+        q
     }
 }
 

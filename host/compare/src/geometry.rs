@@ -1,25 +1,62 @@
 //! The leaves on vectors, quaternions and segments.
 
 use crate::draw::{grid, Draw, CORNERS, SIGNS};
-use crate::run::{Kind, Run};
+use crate::run::Run;
+use crate::target::{Kind, Kinds, Target};
 use nalgebra::{Point3, Quaternion, UnitQuaternion, Vector3};
 use parry3d_f64::{query, shape::Segment};
 use proved::Axis;
 use reference::spacetime::arm::{get_quat_x, get_quat_y, get_quat_z};
 
-pub fn kinds() -> Vec<Kind> {
-    let kind = Kind::new;
+const QUATERNIONS: Kinds = &[
+    (Kind::Range, 9),
+    (Kind::Signs, 4),
+    (Kind::Small, 1),
+    (Kind::Any, 2),
+];
+const VECTORS: Kinds = &[
+    (Kind::Range, 5),
+    (Kind::Signs, 1),
+    (Kind::Small, 1),
+    (Kind::Any, 1),
+];
+const ANGLES: Kinds = &[(Kind::Range, 1), (Kind::Any, 1)];
+const SEGMENTS: Kinds = &[
+    (Kind::Range, 1),
+    (Kind::Border, 12),
+    (Kind::Small, 2),
+    (Kind::Any, 1),
+];
+
+pub fn targets() -> Vec<Target> {
+    let leaf = Target::leaf;
     vec![
-        kind("quat_product", "quaternion product", quat_product),
-        kind("quat_inverse", "quaternion inverse", quat_inverse),
-        kind("rotate", "a vector rotated", rotate),
-        kind("cross", "cross product", cross),
-        kind("norm", "length of a vector", norm),
-        kind("get_quat", "rotation about x, y or z", get_quat),
-        kind("scaled_axis", "scaled axis of a quaternion", scaled_axis),
-        kind(
+        leaf(
+            "quat_product",
+            "quaternion product",
+            QUATERNIONS,
+            quat_product,
+        ),
+        leaf(
+            "quat_inverse",
+            "quaternion inverse",
+            QUATERNIONS,
+            quat_inverse,
+        ),
+        leaf("rotate", "a vector rotated", QUATERNIONS, rotate),
+        leaf("cross", "cross product", VECTORS, cross),
+        leaf("norm", "length of a vector", VECTORS, norm),
+        leaf("get_quat", "rotation about x, y or z", ANGLES, get_quat),
+        leaf(
+            "scaled_axis",
+            "scaled axis of a quaternion",
+            QUATERNIONS,
+            scaled_axis,
+        ),
+        leaf(
             "segment_distance",
             "distance of two segments",
+            SEGMENTS,
             segment_distance,
         ),
     ]
@@ -56,7 +93,10 @@ fn join<const N: usize>(first: &[f64], second: &[f64]) -> [f64; N] {
 fn quat_product(run: &mut Run) {
     run.function(
         grid::<8>(&SIGNS),
-        |draw| join(&draw.quaternion(), &draw.quaternion()),
+        |draw, kind| {
+            let kinds = [draw.mixed(kind), draw.mixed(kind)];
+            join(&draw.quaternion(kinds[0]), &draw.quaternion(kinds[1]))
+        },
         |all| {
             let (a, b) = split::<8, 4, 4>(all);
             proved::quat_product(a, b)
@@ -80,7 +120,10 @@ fn quat_inverse(run: &mut Run) {
 fn rotate(run: &mut Run) {
     run.function(
         grid::<7>(&SIGNS),
-        |draw| join(&draw.quaternion(), &draw.vector()),
+        |draw, kind| {
+            let kinds = [draw.mixed(kind), draw.mixed(kind)];
+            join(&draw.quaternion(kinds[0]), &draw.vector(kinds[1]))
+        },
         |all| {
             let (q, v) = split::<7, 4, 3>(all);
             proved::rotate(q, v)
@@ -95,7 +138,10 @@ fn rotate(run: &mut Run) {
 fn cross(run: &mut Run) {
     run.function(
         grid::<6>(&SIGNS),
-        |draw| join(&draw.vector(), &draw.vector()),
+        |draw, kind| {
+            let kinds = [draw.mixed(kind), draw.mixed(kind)];
+            join(&draw.vector(kinds[0]), &draw.vector(kinds[1]))
+        },
         |all| {
             let (a, b) = split::<6, 3, 3>(all);
             proved::cross(a, b)
@@ -123,11 +169,11 @@ fn get_quat(run: &mut Run) {
     run.function(
         axes.iter()
             .flat_map(|&a| edges.iter().map(move |&v| [a, v])),
-        |draw| {
+        |draw, kind| {
             let axis = draw.pick(&axes);
-            let v = match draw.word() % 2 {
-                0 => draw.between(-8.000001, 8.000001),
-                _ => draw.any(),
+            let v = match kind {
+                Kind::Any => draw.any(),
+                _ => draw.between(-8.000001, 8.000001),
             };
             [axis, v]
         },
@@ -159,7 +205,7 @@ fn segment_distance(run: &mut Run) {
     });
     run.function(
         edges.map(flat),
-        |draw| flat(segments(draw)),
+        |draw, kind| flat(segments(draw, kind)),
         |all| [proved::segment_distance(points_of(all))],
         |all| {
             let [a, b, c, d] = points_of(all).map(|p| Point3::from(vector(p)));
@@ -179,27 +225,41 @@ pub fn points_of(all: [f64; 12]) -> [[f64; 3]; 4] {
     std::array::from_fn(|p| std::array::from_fn(|i| all[3 * p + i]))
 }
 
-/// Segments in every relation that the formula tells apart, and any others.
-fn segments(draw: &mut Draw) -> [[f64; 3]; 4] {
-    let place = |draw: &mut Draw| -> [f64; 3] {
-        match draw.word() % 4 {
-            0 => std::array::from_fn(|_| draw.pick(&[0.0, -0.0, 1.0, -1.0, 0.5, 2.0])),
-            1 => std::array::from_fn(|_| draw.between(-1.0, 1.0)),
-            2 => std::array::from_fn(|_| draw.between(-160.0, 160.0)),
-            _ => std::array::from_fn(|_| draw.between(-10.0, 10.0)),
-        }
-    };
-    let along = |from: [f64; 3], to: [f64; 3], f: f64| -> [f64; 3] {
-        std::array::from_fn(|i| from[i] + (to[i] - from[i]) * f)
-    };
-    let shifted = |p: [f64; 3], by: [f64; 3]| -> [f64; 3] { std::array::from_fn(|i| p[i] + by[i]) };
-    let (a, b) = (place(draw), place(draw));
-    match draw.word() % 16 {
+fn segments(draw: &mut Draw, kind: Kind) -> [[f64; 3]; 4] {
+    match kind {
+        Kind::Any => std::array::from_fn(|_| draw.anys()),
+        Kind::Small => small_segments(draw),
+        Kind::Border => match draw.word() % 12 {
+            0..8 => related(draw),
+            _ => touching(draw),
+        },
+        _ => std::array::from_fn(|_| place(draw)),
+    }
+}
+
+fn place(draw: &mut Draw) -> [f64; 3] {
+    match draw.word() % 4 {
+        0 => std::array::from_fn(|_| draw.pick(&[0.0, -0.0, 1.0, -1.0, 0.5, 2.0])),
+        1 => std::array::from_fn(|_| draw.between(-1.0, 1.0)),
+        2 => std::array::from_fn(|_| draw.between(-160.0, 160.0)),
+        _ => std::array::from_fn(|_| draw.between(-10.0, 10.0)),
+    }
+}
+
+fn along(from: [f64; 3], to: [f64; 3], f: f64) -> [f64; 3] {
+    std::array::from_fn(|i| from[i] + (to[i] - from[i]) * f)
+}
+
+fn shifted(p: [f64; 3], by: [f64; 3]) -> [f64; 3] {
+    std::array::from_fn(|i| p[i] + by[i])
+}
+
+/// Parallel segments, equal ones and points, which the formula tells apart.
+fn related(draw: &mut Draw) -> [[f64; 3]; 4] {
+    let (a, b, c) = (place(draw), place(draw), place(draw));
+    match draw.word() % 8 {
         // Parallel, aside.
-        0 => {
-            let by = place(draw);
-            [a, b, shifted(a, by), shifted(b, by)]
-        }
+        0 => [a, b, shifted(a, c), shifted(b, c)],
         // Equal, and the other way round.
         1 => [a, b, a, b],
         2 => [a, b, b, a],
@@ -209,45 +269,35 @@ fn segments(draw: &mut Draw) -> [[f64; 3]; 4] {
             [a, b, along(a, b, f), along(a, b, g)]
         }
         // Points.
-        4 => [a, a, place(draw), place(draw)],
+        4 => [a, a, c, place(draw)],
         5 => [a, b, b, b],
-        6 => {
-            let c = place(draw);
-            [a, b, c, c]
-        }
-        7 => {
-            let c = place(draw);
-            [a, a, c, c]
-        }
+        6 => [a, b, c, c],
+        _ => [a, a, c, c],
+    }
+}
+
+/// An end on the other segment, or both crossing: t falls on 0 or 1, or just
+/// beside.
+fn touching(draw: &mut Draw) -> [[f64; 3]; 4] {
+    let (a, b, c) = (place(draw), place(draw), place(draw));
+    let middle = along(a, b, draw.between(0.0, 1.0));
+    match draw.word() % 4 {
         // Sharing an end, as neighbouring links do.
-        8 => [a, b, b, place(draw)],
-        // Crossing.
-        9 => {
-            let middle = along(a, b, draw.between(0.0, 1.0));
-            let c = place(draw);
-            [a, b, c, along(c, middle, draw.between(0.0, 2.0))]
-        }
-        // An end on the other segment: t falls on 0 or 1, or just beside.
-        10 => {
-            let middle = along(a, b, draw.between(0.0, 1.0));
-            [a, b, middle, place(draw)]
-        }
-        11 => {
-            let middle = along(a, b, draw.between(0.0, 1.0));
-            [a, b, place(draw), middle]
-        }
-        // Very short, so that a square falls to a subnormal or to 0.
-        12 => {
-            let scale = draw.small(1000);
-            let by = place(draw).map(|v| v * scale);
+        0 => [a, b, b, c],
+        1 => [a, b, c, along(c, middle, draw.between(0.0, 2.0))],
+        2 => [a, b, middle, c],
+        _ => [a, b, c, middle],
+    }
+}
+
+/// One or both so short that a square falls to a subnormal or to 0.
+fn small_segments(draw: &mut Draw) -> [[f64; 3]; 4] {
+    let scale = draw.small(1000);
+    match draw.word() % 2 {
+        0 => {
+            let (a, by) = (place(draw), place(draw).map(|v| v * scale));
             [a, shifted(a, by), place(draw), place(draw)]
         }
-        13 => {
-            let scale = draw.small(1000);
-            std::array::from_fn(|_| place(draw).map(|v| v * scale))
-        }
-        // Anything.
-        14 => std::array::from_fn(|_| draw.anys()),
-        _ => [a, b, place(draw), place(draw)],
+        _ => std::array::from_fn(|_| place(draw).map(|v| v * scale)),
     }
 }

@@ -7,13 +7,42 @@
 #[cfg(feature = "arms")]
 pub mod arms;
 pub mod draw;
+#[cfg(feature = "arms")]
+mod found;
 pub mod geometry;
 #[cfg(feature = "objective")]
 pub mod losses;
 pub mod matrices;
 pub mod numbers;
+pub mod options;
+mod progress;
+pub mod report;
 pub mod run;
+pub mod session;
+mod shares;
 #[cfg(feature = "arms")]
 pub mod sheets;
 #[cfg(feature = "objective")]
 pub mod slopes;
+#[cfg(feature = "arms")]
+pub mod source;
+mod state;
+mod tally;
+pub mod target;
+
+use target::Target;
+
+/// Everything that is compared, by name. A further call is a further one.
+pub fn targets() -> Vec<Target> {
+    let mut all = numbers::targets();
+    all.extend(geometry::targets());
+    all.extend(matrices::targets());
+    #[cfg(feature = "arms")]
+    all.extend(arms::targets());
+    #[cfg(feature = "objective")]
+    {
+        all.extend(losses::targets());
+        all.extend(slopes::targets());
+    }
+    all
+}

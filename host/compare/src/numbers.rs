@@ -1,60 +1,90 @@
 //! The leaves that take one or two numbers.
 
 use crate::draw::{grid, Draw};
-use crate::run::{Kind, Run};
+use crate::run::Run;
+use crate::target::{Kind, Kinds, Target, CONSTANT};
 use standins::{atan2, b, cos, cut, exp, powi, sin};
 
-pub fn kinds() -> Vec<Kind> {
-    let kind = Kind::new;
+/// About half of the draws are any floats.
+const ROOT: Kinds = &[
+    (Kind::Range, 1),
+    (Kind::Border, 2),
+    (Kind::Small, 1),
+    (Kind::Any, 4),
+];
+const ANGLE: Kinds = &[(Kind::Range, 3), (Kind::Small, 1), (Kind::Any, 4)];
+const EXPONENT: Kinds = &[
+    (Kind::Range, 5),
+    (Kind::Border, 2),
+    (Kind::Small, 1),
+    (Kind::Any, 8),
+];
+const SCALED: Kinds = &[(Kind::Range, 3), (Kind::Border, 1), (Kind::Any, 4)];
+const SIDES: Kinds = &[
+    (Kind::Range, 2),
+    (Kind::Border, 2),
+    (Kind::Small, 2),
+    (Kind::Any, 2),
+];
+
+pub fn targets() -> Vec<Target> {
+    let leaf = Target::leaf;
+    let constant = |name, about, run| Target::new(name, about, CONSTANT, &[], run);
     vec![
-        kind("sqrt", "square root, against the machine's own", sqrt),
-        kind("sin", "sine", |run| one(run, half_angle, proved::sin, sin)),
-        kind("cos", "cosine", |run| {
+        leaf(
+            "sqrt",
+            "square root, against the machine's own",
+            ROOT,
+            |run| one(run, radicand, proved::sqrt, f64::sqrt),
+        ),
+        leaf("sin", "sine", ANGLE, |run| {
+            one(run, half_angle, proved::sin, sin)
+        }),
+        leaf("cos", "cosine", ANGLE, |run| {
             one(run, half_angle, proved::cos, cos)
         }),
-        kind("exp", "exponential", |run| {
+        leaf("exp", "exponential", EXPONENT, |run| {
             one(run, exponent, proved::exp, exp)
         }),
-        kind("atan2", "angle of n and w", angle),
-        kind("power20", "20th power by squaring", |run| {
-            one(run, near_bounds, proved::power20, |a| powi(a, 20))
+        leaf("atan2", "angle of n and w", SIDES, angle),
+        leaf("power20", "20th power by squaring", SCALED, |run| {
+            one(run, scaled, proved::power20, |a| powi(a, 20))
         }),
-        kind("power30", "30th power by squaring", |run| {
-            one(run, near_bounds, proved::power30, |a| powi(a, 30))
+        leaf("power30", "30th power by squaring", SCALED, |run| {
+            one(run, scaled, proved::power30, |a| powi(a, 30))
         }),
-        kind("b20", "the constant b for 20", |run| {
+        constant("b20", "the constant b for 20", |run| {
             run.floats(&[], &[proved::b20()], &[b(20)])
         }),
-        kind("b30", "the constant b for 30", |run| {
+        constant("b30", "the constant b for 30", |run| {
             run.floats(&[], &[proved::b30()], &[b(30)])
         }),
-        kind("cut", "cut to 0..1", |run| {
-            one(run, near_bounds, proved::cut, cut)
+        leaf("cut", "cut to 0..1", SCALED, |run| {
+            one(run, scaled, proved::cut, cut)
         }),
-        kind("abs", "absolute value", |run| {
-            one(run, near_bounds, proved::abs, f64::abs)
+        leaf("abs", "absolute value", SCALED, |run| {
+            one(run, scaled, proved::abs, f64::abs)
         }),
     ]
 }
 
-/// A leaf of one number: all edges and powers of two with their neighbours,
-/// then half of the draws from the leaf's own range and half from anywhere.
+/// A leaf of one number: all edges and powers of two with their neighbours, or
+/// draws.
 #[inline]
 fn one(
     run: &mut Run,
-    own: impl Fn(&mut Draw) -> f64,
+    draw: impl Fn(&mut Draw, Kind) -> f64,
     proved: impl Fn(f64) -> f64,
     reference: impl Fn(f64) -> f64,
 ) {
-    let edges = singles(&run.draw);
+    let edges = if run.edges() {
+        singles(&run.draw)
+    } else {
+        Vec::new()
+    };
     run.function(
         edges.into_iter(),
-        |draw| {
-            [match draw.word() % 2 {
-                0 => own(draw),
-                _ => draw.any(),
-            }]
-        },
+        |from, kind| [draw(from, kind)],
         |[x]| [proved(x)],
         |[x]| [reference(x)],
     );
@@ -83,62 +113,73 @@ fn singles(draw: &Draw) -> Vec<[f64; 1]> {
 
 /// Joints reach 8 and a little beyond once raised; sine and cosine are asked
 /// half of that.
-fn half_angle(draw: &mut Draw) -> f64 {
-    match draw.word() % 4 {
-        0 => draw.small(60),
-        1 => draw.between(-8.000001, 8.000001),
+fn half_angle(draw: &mut Draw, kind: Kind) -> f64 {
+    match (kind, draw.word() % 3) {
+        (Kind::Any, _) => draw.any(),
+        (Kind::Small, _) => draw.small(60),
+        (_, 0) => draw.between(-8.000001, 8.000001),
         _ => draw.between(-4.0000001, 4.0000001),
     }
 }
 
-fn exponent(draw: &mut Draw) -> f64 {
-    match draw.word() % 8 {
-        0 => draw.between(-700.001, -699.999),
-        1 => draw.between(-0.001, 0.0001),
-        2 => -draw.small(1000).abs(),
-        3 => draw.between(-10.0, 0.0),
-        4 => draw.between(-1.0, 0.0),
+/// The border is where the answer becomes 0, and 0.
+fn exponent(draw: &mut Draw, kind: Kind) -> f64 {
+    match (kind, draw.word() % 8) {
+        (Kind::Any, _) => draw.any(),
+        (Kind::Border, 0..4) => draw.between(-700.001, -699.999),
+        (Kind::Border, _) => draw.between(-0.001, 0.0001),
+        (Kind::Small, _) => -draw.small(1000).abs(),
+        (_, 0) => draw.between(-10.0, 0.0),
+        (_, 1) => draw.between(-1.0, 0.0),
         _ => draw.between(-750.0, 0.0),
     }
 }
 
 /// Scaled joint values: bounds are at -1 and 1.
-fn near_bounds(draw: &mut Draw) -> f64 {
-    match draw.word() % 4 {
-        0 => draw.between(-1.0001, 1.0001),
-        1 => draw.between(0.9, 1.1),
-        2 => draw.between(-100.0, 100.0),
+fn scaled(draw: &mut Draw, kind: Kind) -> f64 {
+    match (kind, draw.word() % 3) {
+        (Kind::Any, _) => draw.any(),
+        (Kind::Border, _) => draw.between(0.9, 1.1),
+        (_, 0) => draw.between(-1.0001, 1.0001),
+        (_, 1) => draw.between(-100.0, 100.0),
         _ => draw.between(-2.0, 2.0),
     }
 }
 
-fn sqrt(run: &mut Run) {
-    one(run, radicand, proved::sqrt, f64::sqrt);
-}
-
-/// Where a root is hardest: squares and their neighbours, floats beside the
-/// square of a point halfway between two floats, subnormals of every length.
-fn radicand(draw: &mut Draw) -> f64 {
-    match draw.word() % 4 {
-        0 => {
-            let side = (draw.word() >> 38) as f64;
-            let scale = f64::from_bits((1023 - 2 * (draw.word() % 500)) << 52);
-            beside(draw, side * side * scale)
+/// The border is where a root is hardest: squares, floats beside the square of a
+/// point halfway between two floats, and the neighbours of both.
+fn radicand(draw: &mut Draw, kind: Kind) -> f64 {
+    match (kind, draw.word() % 2) {
+        (Kind::Any, _) => draw.any(),
+        (Kind::Border, 0) => {
+            let square = square(draw);
+            beside(draw, square)
         }
-        1 => {
-            // The square of q + 1/2 for a q of 53 digits, cut to 53 digits:
-            // roots of the floats about here lie next to the halfway point.
-            let q = draw.word() >> 12 | 1 << 52;
-            let twice = u128::from(2 * q + 1);
-            let square = twice * twice;
-            let drop = 128 - 53 - square.leading_zeros();
-            let exponent = (1075 + u64::from(drop % 2)) - 2 * (draw.word() % 500);
-            let fraction = (square >> drop) as u64 & ((1 << 52) - 1);
-            beside(draw, f64::from_bits(fraction | exponent << 52))
+        (Kind::Border, _) => {
+            let halfway = halfway(draw);
+            beside(draw, halfway)
         }
-        2 => draw.subnormal().abs(),
+        (Kind::Small, _) => draw.subnormal().abs(),
         _ => draw.bits().abs(),
     }
+}
+
+fn square(draw: &mut Draw) -> f64 {
+    let side = (draw.word() >> 38) as f64;
+    let scale = f64::from_bits((1023 - 2 * (draw.word() % 500)) << 52);
+    side * side * scale
+}
+
+/// The square of q + 1/2 for a q of 53 digits, cut to 53 digits: roots of the
+/// floats about here lie next to the halfway point.
+fn halfway(draw: &mut Draw) -> f64 {
+    let q = draw.word() >> 12 | 1 << 52;
+    let twice = u128::from(2 * q + 1);
+    let square = twice * twice;
+    let drop = 128 - 53 - square.leading_zeros();
+    let exponent = (1075 + u64::from(drop % 2)) - 2 * (draw.word() % 500);
+    let fraction = (square >> drop) as u64 & ((1 << 52) - 1);
+    f64::from_bits(fraction | exponent << 52)
 }
 
 fn beside(draw: &mut Draw, v: f64) -> f64 {
@@ -153,26 +194,28 @@ fn angle(run: &mut Run) {
     let edges = run.draw.edges();
     run.function(
         grid(&edges),
-        |draw| match draw.word() % 8 {
-            0 => draw.anys(),
-            1 => [draw.bits().abs(), draw.bits().abs()],
-            2 => {
-                let v = draw.any().abs();
-                [v, v]
-            }
-            3 => {
-                let v = draw.between(0.0, 1.0);
-                [beside(draw, v), v]
-            }
-            4 => [draw.small(1000).abs(), 1.0],
-            5 => [draw.small(1000).abs(), draw.small(1000).abs()],
-            _ => {
-                // As scaled_axis asks: the two sides of a unit quaternion.
-                let w = draw.between(0.0, 1.0);
-                [(1.0 - w * w).sqrt(), w]
-            }
-        },
+        sides,
         |[n, w]| [proved::atan2(n, w)],
         |[n, w]| [atan2(n, w)],
     );
+}
+
+/// In range: the two sides of a unit quaternion, as scaled_axis asks. The border
+/// is n = w.
+fn sides(draw: &mut Draw, kind: Kind) -> [f64; 2] {
+    match (kind, draw.word() % 2) {
+        (Kind::Any, 0) => draw.anys(),
+        (Kind::Any, _) => [draw.bits().abs(), draw.bits().abs()],
+        (Kind::Border, 0) => [draw.any().abs(); 2],
+        (Kind::Border, _) => {
+            let v = draw.between(0.0, 1.0);
+            [beside(draw, v), v]
+        }
+        (Kind::Small, 0) => [draw.small(1000).abs(), 1.0],
+        (Kind::Small, _) => [draw.small(1000).abs(), draw.small(1000).abs()],
+        _ => {
+            let w = draw.between(0.0, 1.0);
+            [(1.0 - w * w).sqrt(), w]
+        }
+    }
 }

@@ -2,6 +2,7 @@
 //! histories and goals, and the ways to spoil them.
 
 use crate::draw::Draw;
+use crate::target::Kind;
 use proved::{put_floats, put_u16s};
 use reference::refusals::{self, f64s, u16s};
 use reference::sheet;
@@ -319,6 +320,14 @@ impl Change {
         Self::ByteMore,
     ];
 
+    fn kind(self) -> Kind {
+        match self {
+            Self::Short | Self::Empty => Kind::Short,
+            Self::Long => Kind::Long,
+            Self::ByteLess | Self::ByteMore => Kind::Ragged,
+        }
+    }
+
     /// What is added is the list's own last number, so that only the length is
     /// wrong.
     fn apply(self, bytes: &mut Vec<u8>, unit: usize, draw: &mut Draw) {
@@ -351,67 +360,86 @@ pub enum Damage {
     GoalTurn(Edge),
 }
 
-/// One ulp outside of a range on either side, then what is in no range.
-fn outside(end: f64) -> [f64; 5] {
+/// Pairs of limits at the border: taken.
+const BORDER_PAIRS: [(f64, f64); 3] = [(-999.0, 999.0), (-100.0, 100.0), (5.0, 5.001)];
+const OUTSIDE_PAIRS: [(f64, f64); 14] = [
+    (-999.0, 999.0f64.next_up()),
+    (-999.0, 999.0f64.next_down()),
+    ((-999.0f64).next_up(), 999.0),
+    ((-999.0f64).next_down(), 999.0),
+    (999.0, -999.0),
+    (999.0, 999.0),
+    (-999.0, 100.0),
+    (-100.0, 999.0),
+    ((-100.0f64).next_down(), 0.0),
+    (0.0, 100.0f64.next_up()),
+    (100.0, 100.0),
+    (0.5, -0.5),
+    (0.0, 0.0),
+    (1.0, 1.001),
+];
+const NAN_PAIRS: [(f64, f64); 4] = [
+    (f64::NAN, 1.0),
+    (-1.0, f64::NAN),
+    (f64::NEG_INFINITY, 1.0),
+    (-1.0, f64::INFINITY),
+];
+
+/// At the ends of a range from -`end` to `end`, one ulp outside of it, and what
+/// is in no range.
+fn values(end: f64) -> [(Kind, f64); 7] {
     let beyond = end.next_up();
-    [beyond, -beyond, f64::NAN, f64::INFINITY, f64::NEG_INFINITY]
+    [
+        (Kind::Border, end),
+        (Kind::Border, -end),
+        (Kind::Outside, beyond),
+        (Kind::Outside, -beyond),
+        (Kind::Nan, f64::NAN),
+        (Kind::Nan, f64::INFINITY),
+        (Kind::Nan, f64::NEG_INFINITY),
+    ]
 }
 
-/// Every damage to the lists that a call reads. A few are none: the value lies
-/// on the edge, or there is a pair of -999 and 999 already.
-pub fn damages(read: &[List]) -> Vec<Damage> {
+/// On either side of the edge.
+const SIDES: [(Kind, Edge); 2] = [(Kind::Border, Edge::JustIn), (Kind::Outside, Edge::JustOut)];
+
+/// Every damage to the lists that a call reads, by its kind. Some are none: at
+/// the border, and where a count or a pair is already there.
+pub fn damages(read: &[List]) -> Vec<(Kind, Damage)> {
     let mut all = Vec::new();
     for &list in read {
-        all.extend(Change::ALL.map(|change| Damage::Length(list, change)));
+        all.extend(Change::ALL.map(|change| (change.kind(), Damage::Length(list, change))));
     }
-    all.extend(UNLISTED.map(Damage::Code));
-    all.push(Damage::Fixed);
-    all.extend([0, 1, 2, 3, 4, 5, 65535].map(Damage::Chains));
-    all.extend([0, 1, 16, 17, 65535].map(Damage::Links));
-    all.extend(outside(10.0).map(Damage::Displacement));
-    all.extend([10.0, -10.0].map(Damage::Displacement));
-    all.extend([Edge::JustIn, Edge::JustOut].map(Damage::Offset));
-    all.extend([f64::NAN, f64::INFINITY, 1e-4, 1.1].map(Damage::OffsetPart));
-    all.extend([Edge::JustIn, Edge::JustOut].map(Damage::Narrow));
-    let (free, most) = (999.0f64, 100.0f64);
-    all.extend(
-        [
-            (-free, free),
-            (-free, free.next_up()),
-            (-free, free.next_down()),
-            ((-free).next_up(), free),
-            ((-free).next_down(), free),
-            (free, -free),
-            (free, free),
-            (-free, most),
-            (-most, free),
-            (-most, most),
-            ((-most).next_down(), 0.0),
-            (0.0, most.next_up()),
-            (most, most),
-            (0.5, -0.5),
-            (0.0, 0.0),
-            (5.0, 5.001),
-            (1.0, 1.001),
-            (f64::NAN, 1.0),
-            (-1.0, f64::NAN),
-            (f64::NEG_INFINITY, 1.0),
-            (-1.0, f64::INFINITY),
-        ]
-        .map(|(lower, upper)| Damage::Pair(lower, upper)),
-    );
+    all.extend(UNLISTED.map(|code| (Kind::Codes, Damage::Code(code))));
+    all.push((Kind::Codes, Damage::Fixed));
+    all.extend([0, 1, 2, 3, 4, 5, 65535].map(|count| (Kind::Counts, Damage::Chains(count))));
+    all.extend([0, 1, 16, 17, 65535].map(|count| (Kind::Counts, Damage::Links(count))));
+    all.extend(values(10.0).map(|(kind, v)| (kind, Damage::Displacement(v))));
+    all.extend(SIDES.map(|(kind, edge)| (kind, Damage::Offset(edge))));
+    all.extend([f64::NAN, f64::INFINITY].map(|v| (Kind::Nan, Damage::OffsetPart(v))));
+    all.extend([1e-4, 1.1].map(|v| (Kind::Outside, Damage::OffsetPart(v))));
+    all.extend(pair_damages());
     for list in [Joints, History] {
         if read.contains(&list) {
-            all.extend(outside(8.0).map(|v| Damage::Value(list, v)));
-            all.extend([8.0, -8.0].map(|v| Damage::Value(list, v)));
+            all.extend(values(8.0).map(|(kind, v)| (kind, Damage::Value(list, v))));
         }
     }
     if read.contains(&Goals) {
-        all.extend(outside(100.0).map(Damage::GoalPart));
-        all.extend([100.0, -100.0].map(Damage::GoalPart));
-        all.extend([Edge::JustIn, Edge::JustOut].map(Damage::GoalTurn));
-        all.push(Damage::Value(Goals, f64::NAN));
+        all.extend(values(100.0).map(|(kind, v)| (kind, Damage::GoalPart(v))));
+        all.extend(SIDES.map(|(kind, edge)| (kind, Damage::GoalTurn(edge))));
+        all.push((Kind::Nan, Damage::Value(Goals, f64::NAN)));
     }
+    all
+}
+
+/// Those to a pair of limits.
+fn pair_damages() -> Vec<(Kind, Damage)> {
+    let pair = |kind: Kind| move |(lower, upper)| (kind, Damage::Pair(lower, upper));
+    let mut all = Vec::new();
+    all.extend(SIDES.map(|(kind, edge)| (kind, Damage::Narrow(edge))));
+    all.extend(BORDER_PAIRS.map(pair(Kind::Border)));
+    all.extend(OUTSIDE_PAIRS.map(pair(Kind::Outside)));
+    all.extend(NAN_PAIRS.map(pair(Kind::Nan)));
     all
 }
 
@@ -433,6 +461,16 @@ impl Fit {
         Self::Exact,
         Self::Long,
         Self::Longer,
+        Self::Short,
+        Self::ByteLess,
+        Self::ByteMore,
+        Self::FourMore,
+        Self::Empty,
+    ];
+
+    /// Those that a list of floats cannot be lent with. Of u16s four bytes more
+    /// are two numbers more, and taken.
+    pub const WRONG: [Self; 5] = [
         Self::Short,
         Self::ByteLess,
         Self::ByteMore,

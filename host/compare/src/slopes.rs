@@ -1,47 +1,64 @@
 //! The objective and its slopes against the reference, and against each other.
 
-use crate::arms::{all, exact, Call, Source};
-use crate::run::{matches, Kind, Run};
+use crate::arms::{all, exact, Call};
+use crate::found::{differing, sheet};
+use crate::run::{matches, Run};
 use crate::sheets::{List, Lists, Shape};
-use std::fmt::Write as _;
+use crate::source::{Source, READ, WRITTEN};
+use crate::tally::Shown;
+use crate::target::{Target, OBJECTIVE, SLOPES, TOGETHER};
+use sheet_text::Text;
 
-/// Draws of a slow call are divided by these.
-const OBJECTIVE: u64 = 20;
-const SLOPES: u64 = 100;
-const TOGETHER: u64 = 200;
-
-pub fn kinds() -> Vec<Kind> {
-    let kind = Kind::new;
+pub fn targets() -> Vec<Target> {
+    let target = Target::new;
     vec![
-        kind("objective", "the objective", |run| {
+        target("objective", "the objective", OBJECTIVE, WRITTEN, |run| {
             all(run, Call::Objective)
-        })
-        .divided(OBJECTIVE),
-        kind("gradient", "slopes by 1e-7, on two blocks", |run| {
-            all(run, Call::Gradient)
-        })
-        .divided(SLOPES),
-        kind("gradient_finite_diff", "slopes by 1e-6", |run| {
-            all(run, Call::GradientFiniteDiff)
-        })
-        .divided(SLOPES),
-        kind(
+        }),
+        target(
+            "gradient",
+            "slopes by 1e-7, on two blocks",
+            SLOPES,
+            WRITTEN,
+            |run| all(run, Call::Gradient),
+        ),
+        target(
+            "gradient_finite_diff",
+            "slopes by 1e-6",
+            SLOPES,
+            WRITTEN,
+            |run| all(run, Call::GradientFiniteDiff),
+        ),
+        target(
             "gradient_one_block",
             "slopes by 1e-7, on one block, and the record",
+            SLOPES,
+            WRITTEN,
             |run| all(run, Call::GradientOneBlock),
-        )
-        .divided(SLOPES),
-        kind(
+        ),
+        target(
             "gradients_agree",
             "the proved calls for slopes, one against the other",
+            TOGETHER,
+            READ,
             agree,
-        )
-        .divided(TOGETHER),
+        ),
     ]
 }
 
-/// The four calls at joints of every sign, then on draws with their faults.
+/// The four calls at joints of every sign, or on draws with their faults.
 fn agree(run: &mut Run) {
+    if run.edges() {
+        every_sign(run);
+    }
+    let mut source = Source::new(Call::Objective, run.kind);
+    while run.more() {
+        let (lists, _) = source.next(&mut run.draw);
+        together(run, lists);
+    }
+}
+
+fn every_sign(run: &mut Run) {
     let shapes: [Shape; 3] = [
         vec![vec![13, 12]],
         vec![vec![0, 13, 12, 11, 36, 23, 15, 16, 0]],
@@ -55,24 +72,19 @@ fn agree(run: &mut Run) {
             together(run, &lists);
         }
     }
-    let mut source = Source::new(Call::Objective);
-    while run.more() {
-        let (lists, _) = source.next(&mut run.draw);
-        together(run, lists);
-    }
 }
+
+const CALLS: [Call; 4] = [
+    Call::Objective,
+    Call::Gradient,
+    Call::GradientFiniteDiff,
+    Call::GradientOneBlock,
+];
 
 /// All four calls on the same lists: the same number, the same value, and the
 /// same slopes by 1e-7 from one block and from two.
 fn together(run: &mut Run, lists: &Lists) {
-    const CALLS: [Call; 4] = [
-        Call::Objective,
-        Call::Gradient,
-        Call::GradientFiniteDiff,
-        Call::GradientOneBlock,
-    ];
-    let read = Call::Objective.read().iter().map(|&list| lists.get(list));
-    let read: Vec<&[u8]> = read.collect();
+    let read = Call::Objective.lent(lists);
     let mut numbers = [0; 4];
     let mut outputs = CALLS.map(|call| {
         let lengths = exact(call, lists).into_iter();
@@ -84,27 +96,29 @@ fn together(run: &mut Run, lists: &Lists) {
     }
     let [single, two, coarse, one] = &outputs;
     // Value, then slopes; two blocks have their scratch list before them.
-    let pairs = [
-        ("value, objective and gradient", &single[0], &two[1]),
-        ("value, objective and finite diff", &single[0], &coarse[1]),
-        ("value, objective and one block", &single[0], &one[0]),
-        ("slopes, two blocks and one", &two[2], &one[1]),
+    let pairs: [[Answer; 2]; 4] = [
+        [("objective", &single[0]), ("gradient", &two[1])],
+        [("objective", &single[0]), ("finite diff", &coarse[1])],
+        [("objective", &single[0]), ("one block", &one[0])],
+        [("two blocks", &two[2]), ("one block", &one[1])],
     ];
     let same = numbers.iter().all(|&number| number == numbers[0])
-        && pairs.iter().all(|(_, a, b)| same_floats(a, b));
+        && pairs.iter().all(|[(_, a), (_, b)]| same_floats(a, b));
     run.answer(numbers[0]);
-    run.case(same, || {
-        let mut text = format!("  answered {numbers:?}\n");
-        for (name, a, b) in &pairs {
-            if !same_floats(a, b) {
-                let _ = writeln!(text, "  {name}:\n    {a:02x?}\n    {b:02x?}");
-            }
-        }
-        for (list, bytes) in Call::Objective.read().iter().zip(&read) {
-            let _ = writeln!(text, "  {list:?}: {bytes:02x?}");
-        }
-        text
-    });
+    run.case(same, || show(numbers, &pairs, &read));
+}
+
+/// What a call answered, by its name.
+type Answer<'a> = (&'a str, &'a [u8]);
+
+fn show(numbers: [u32; 4], pairs: &[[Answer; 2]], read: &[&[u8]]) -> Shown {
+    let mut text = Text::default();
+    text.comment(&format!("answered {numbers:?} by {CALLS:?}"));
+    for [first, second] in pairs {
+        differing(&mut text, 8, *first, *second);
+    }
+    sheet(&mut text, Call::Objective.read(), read);
+    Shown::Sheet(text.finish())
 }
 
 /// Bit for bit, a NaN matching a NaN.

@@ -102,15 +102,15 @@ pub fn shown(bytes: &[u8]) -> String {
 #[cfg(test)]
 mod tests {
     use super::*;
-    use compare::arms::Source;
     use compare::draw::Draw;
+    use compare::source::{kind, Source};
 
     #[test]
     fn a_case_comes_back() {
         let mut draw = Draw::new(1);
         for call in Call::ALL {
             let (lists, rooms) = {
-                let mut source = Source::new(call);
+                let mut source = Source::new(call, kind(call, &mut draw));
                 let (lists, rooms) = source.next(&mut draw);
                 let mut copy = Lists::default();
                 copy.copy(lists);

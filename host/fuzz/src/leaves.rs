@@ -4,7 +4,7 @@ use crate::fence::Fence;
 use crate::input::Input;
 use compare::draw::Draw;
 use compare::geometry::{four, points_of, three, unit, vector};
-use compare::run::{describe, matches};
+use compare::run::{matches, show};
 use nalgebra::{DMatrix, Point3};
 use parry3d_f64::{query, shape::Segment};
 use proved::{losses, Axis};
@@ -247,7 +247,10 @@ fn same(name: &str, numbers: &[f64], proved: &[f64], reference: &[f64]) -> Resul
     if proved.len() == reference.len() && both.all(|(&a, &b)| matches(a, b)) {
         Ok(())
     } else {
-        Err(format!("{name}\n{}", describe(numbers, proved, reference)))
+        Err(format!(
+            "{name}\n{}",
+            show(numbers, proved, reference).text()
+        ))
     }
 }
 

@@ -4,13 +4,14 @@
 
 use crate::input::{Input, MOST};
 use crate::mend::mend;
-use compare::arms::{Call, Source};
+use compare::arms::Call;
 use compare::draw::Draw;
 use compare::sheets::{damages, Fit, Lists};
+use compare::source::{kind, Source};
 
 /// A case as `compare` draws it: more than half are taken.
 pub fn drawn(call: Call, draw: &mut Draw) -> Input {
-    let mut source = Source::new(call);
+    let mut source = Source::new(call, kind(call, draw));
     let (from, rooms) = source.next(draw);
     let mut lists = Lists::default();
     lists.copy(from);
@@ -28,7 +29,7 @@ pub fn change(input: &mut Input, draw: &mut Draw, mut plain: impl FnMut(&mut Vec
             3 => length_of_output(input, draw),
             4 | 5 => input.call.renew(&mut input.lists, draw),
             6..=8 => {
-                let damage = draw.pick(&damages(input.call.read()));
+                let (_, damage) = draw.pick(&damages(input.call.read()));
                 input.lists.spoil(damage, draw);
             }
             9 | 10 => bytes(input, draw, false, &mut plain),

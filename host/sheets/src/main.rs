@@ -8,8 +8,8 @@ mod samples;
 
 use reference::groove::objective_master::ObjectiveMaster;
 use reference::{refusals, sheet};
-use samples::Sample;
-use std::fmt::Write as _;
+use samples::{Chain, Sample};
+use sheet_text::{Text, PARTS};
 use std::path::Path;
 use std::process::ExitCode;
 use std::{env, fs};
@@ -20,20 +20,6 @@ sheets DIR [--check]
   DIR      the folder for good/ and bad/
   --check  writes nothing, and says whether the files are as they would be
            written; the last line is 'N passed, M failed'";
-
-const KINDS: [&str; 4] = ["fixed", "revolute", "continuous", "prismatic"];
-const AXES: [&str; 7] = ["none", "x", "y", "z", "-x", "-y", "-z"];
-const PARTS: [&str; 7] = ["x", "y", "z", "w", "i", "j", "k"];
-
-/// Decimals that come back as the same bits.
-fn row(numbers: &[f64]) -> String {
-    let words: Vec<String> = numbers.iter().map(f64::to_string).collect();
-    words.join(" ")
-}
-
-fn lined(out: &mut String, word: &str, numbers: &[f64]) {
-    let _ = writeln!(out, "{word} {}", row(numbers));
-}
 
 /// Azimuth and inclination in degrees of the frame's z axis, azimuth clockwise
 /// from +y, inclination from straight down. With the standard library's
@@ -115,62 +101,47 @@ fn good(sample: &Sample) -> String {
         "{}: the sample is refused",
         sample.file
     );
-    let mut out = String::new();
-    for line in sample.about.lines() {
-        let _ = writeln!(out, "# {line}");
-    }
-    let _ = writeln!(out, "sonde 1\nhole {}", sample.hole);
-    for chain in &sample.chains {
-        let _ = writeln!(out, "\nchain {}", chain.name);
-        for link in &chain.links {
-            let kind = KINDS[usize::from(link.code / 10)];
-            let axis = match link.code {
-                0 => String::new(),
-                code => format!(" {}", AXES[usize::from(code % 10)]),
-            };
-            let (displacement, offset) = link.floats.split_at(3);
-            let front = format!("{kind}{axis}");
-            let _ = writeln!(
-                out,
-                "link {front:<13} {}   {}",
-                row(displacement),
-                row(offset)
-            );
-            match link.limits {
-                Some([-999.0, 999.0]) => out.push_str("limits free\n"),
-                Some(pair) => lined(&mut out, "limits", &pair),
-                None => {}
-            }
-        }
-    }
-    out.push('\n');
-    lined(&mut out, "joints", joints);
+    let mut text = Text::default();
+    text.comment(sample.about);
+    text.start();
+    text.line(&format!("hole {}", sample.hole));
+    sample.chains.iter().for_each(|one| chain(&mut text, one));
+    text.line("");
+    text.numbers("joints", joints);
     for block in sample.history.iter().flatten() {
-        lined(&mut out, "history", block);
+        text.numbers("history", block);
     }
     for goal in goals.chunks_exact(13) {
-        lined(&mut out, "goal", goal);
+        text.numbers("goal", goal);
     }
     if sample.filed {
-        out.push('\n');
-        file(&mut out, sample, &lists, &goals, &history);
+        text.line("");
+        file(&mut text, sample, &lists, &goals, &history);
     }
-    out
+    text.finish()
+}
+
+/// Each joint's limits follow its link.
+fn chain(text: &mut Text, chain: &Chain) {
+    text.chain(chain.name);
+    for link in &chain.links {
+        text.link(link.code, &link.floats);
+        if let Some(pair) = link.limits {
+            text.limits(&pair);
+        }
+    }
 }
 
 /// The reference run's figures.
-fn file(out: &mut String, sample: &Sample, lists: &Lists, goals: &[f64], history: &[f64]) {
+fn file(text: &mut Text, sample: &Sample, lists: &Lists, goals: &[f64], history: &[f64]) {
     let robot = sheet::robot(&lists.sizes, &lists.codes, &lists.floats, &lists.limits);
-    let mut exact = |name: &str, v: f64| {
-        let _ = writeln!(out, "filed {name} {v} {:016x}", v.to_bits());
-    };
     let ends = sheet::ends(&robot, &sample.joints);
     for (chain, end) in sample.chains.iter().zip(ends.chunks_exact(7)) {
         for (part, v) in PARTS.iter().zip(end) {
-            exact(&format!("{}.{part}", chain.name), *v);
+            text.filed(&format!("{}.{part}", chain.name), *v);
         }
     }
-    exact(
+    text.filed(
         "manipulability",
         robot.get_manipulability_immutable(&sample.joints),
     );
@@ -178,17 +149,17 @@ fn file(out: &mut String, sample: &Sample, lists: &Lists, goals: &[f64], history
         let master = ObjectiveMaster::relaxed_ik(&robot.chain_lengths);
         let vars = sheet::lent(robot, goals, history);
         let (value, slopes) = master.gradient(&sample.joints, &vars);
-        exact("objective", value);
+        text.filed("objective", value);
         for (joint, slope) in slopes.iter().enumerate() {
-            exact(&format!("slope.{joint}"), *slope);
+            text.filed(&format!("slope.{joint}"), *slope);
         }
     }
     for (chain, end) in sample.chains.iter().zip(ends.chunks_exact(7)) {
         let (azimuth, inclination) = direction(&end[3..]);
         let azimuth = azimuth.map_or("none".to_string(), |v| format!("{v:.4}"));
         let name = chain.name;
-        let _ = writeln!(out, "filed {name}.azimuth {azimuth}");
-        let _ = writeln!(out, "filed {name}.inclination {inclination:.4}");
+        text.line(&format!("filed {name}.azimuth {azimuth}"));
+        text.line(&format!("filed {name}.inclination {inclination:.4}"));
     }
 }
 

@@ -6,11 +6,11 @@
 mod batch;
 mod report;
 mod svg;
-mod text;
 mod why;
 mod work;
 
 use report::{Outcome, Problem, GOOD, UNUSABLE};
+use sonde::text;
 use std::io::{Read as _, Write as _};
 use std::process::ExitCode;
 use std::{env, fs, io};
