@@ -1,3 +1,4 @@
 pub mod OneBlockCalls
 pub mod OneBlockLaws
 pub mod Numbers
+pub mod Ragged

@@ -1,0 +1,84 @@
+-- A byte list that is ragged, or longer than any that is taken, is refused with that list's number. Up to 8 it is the number that load gets for the sheet's
+-- lists (arm_bytes, Ragged), and the objective for joints, history and goals (objective_bytes, Ragged); a ragged output 9. Lower numbers come first, as ever.
+use mathlib.Core.Path.{_≡_, _∙_}
+use mathlib.Core.List.{List}
+use Prim.Native.Nat.{ℕ, suc, _*_, _%_, _≤_}
+use native.Mathlib.Omega.{arith}
+use lib.Ieee.{Float}
+use lib.ListN.{length}
+use borrow.Author.Tests.{ne-eqb, lt-ltb}
+use Rattle.sheet.specs.Chain.{joints, joint-le, joint-last}
+use Rattle.refusals.specs.Lowest.{firstOf, first-zero, first-some, first-none}
+use Rattle.refusals.specs.Refusal.{roomRefusal}
+use Rattle.one_block.specs.Record.{entriesOf}
+use Rattle.one_block_calls.specs.Room.{recordRefusal}
+use Rattle.lent_bytes.specs.Lent.{roomIn, numberRoomIn}
+use Rattle.lent_bytes.specs.SheetLists.{SheetLists}
+use Rattle.arm_bytes.specs.ArmCalls.{loadNumber}
+use Rattle.arm_bytes.specs.Ragged.{after, ragged-output, second-output, moving}
+use Rattle.objective_bytes.specs.ObjectiveCalls.{aimedNumber}
+use Rattle.one_block_bytes.specs.OneBlockCalls.{entriesIn, oneBlockNumber}
+
+some-first : (a b k : ℕ) → a ≡ suc k → firstOf a b ≡ suc k
+some-first a b k e = first-some a b (λ z. omega (arith, e, z)) ∙ e
+
+-- a call that is refused with one of 1 to 8
+module _ (s : SheetLists) (goals history x : List Float) (value slopes rj rl rp k : ℕ) where
+  pub one-block-refused : aimedNumber s goals history x ≡ suc k → oneBlockNumber s goals history x value slopes rj rl rp ≡ suc k
+  unfolding oneBlockNumber
+  one-block-refused e = some-first _ _ k e
+
+  pub one-block-sheet-refused : loadNumber s ≡ suc k → oneBlockNumber s goals history x value slopes rj rl rp ≡ suc k
+  unfolding aimedNumber
+  one-block-sheet-refused e = one-block-refused (some-first _ _ k e)
+
+-- an output of u16s that is ragged has no room
+ragged-numbers : (needed n : ℕ) → 1 ≤ needed → (n % 2 ≡ 0 → ⊥) → roomRefusal needed (numberRoomIn n) ≡ 9
+unfolding roomRefusal numberRoomIn
+ragged-numbers needed n h m = rw (ne-eqb (n % 2) 0 m, lt-ltb 0 needed h)
+
+-- on input that is taken
+module _ (s : SheetLists) (goals history x : List Float) (q : aimedNumber s goals history x ≡ 0) where
+  jointed : 2 ≤ joints (s .codes)
+  unfolding aimedNumber
+  jointed = moving s (first-none _ _ q .0)
+
+  -- the record has at least one entry for each link
+  entries-some : 1 ≤ entriesIn s
+  unfolding entriesOf
+  entries-some = omega (arith, jointed, joint-last (s .codes), joint-le (s .codes) (length (s .codes)))
+
+  -- value and slopes come first, and have the same number
+  record-refused : (value slopes rj rl rp : ℕ) → recordRefusal (entriesIn s) rj rl rp ≡ 9 → oneBlockNumber s goals history x value slopes rj rl rp ≡ 9
+  unfolding oneBlockNumber
+  record-refused value slopes rj rl rp e = first-zero _ _ q ∙ second-output 1 value _ (second-output (joints (s .codes)) slopes _ e)
+
+  -- an output of floats of n bytes
+  module _ (n : ℕ) (m : n % 8 ≡ 0 → ⊥) where
+    pub one-block-ragged-value : (slopes rj rl rp : ℕ) → oneBlockNumber s goals history x (roomIn n) slopes rj rl rp ≡ 9
+    unfolding oneBlockNumber
+    one-block-ragged-value slopes rj rl rp = after _ _ _ 8 q (ragged-output 1 n (omega arith) m)
+
+    pub one-block-ragged-slopes : (value rj rl rp : ℕ) → oneBlockNumber s goals history x value (roomIn n) rj rl rp ≡ 9
+    unfolding oneBlockNumber
+    one-block-ragged-slopes value rj rl rp =
+        first-zero _ _ q ∙ second-output 1 value _ (some-first _ _ 8 (ragged-output (joints (s .codes)) n (omega (arith, jointed)) m))
+
+    pub one-block-ragged-record-poses : (value slopes rj rl : ℕ) → oneBlockNumber s goals history x value slopes rj rl (roomIn n) ≡ 9
+    unfolding recordRefusal
+    one-block-ragged-record-poses value slopes rj rl =
+        record-refused value slopes rj rl (roomIn n)
+        (second-output (entriesIn s) rj _ (second-output (entriesIn s) rl _ (ragged-output (7 * entriesIn s) n (omega (arith, entries-some)) m)))
+
+  -- an output of u16s of n bytes
+  module _ (n : ℕ) (m : n % 2 ≡ 0 → ⊥) where
+    pub one-block-ragged-record-joints : (value slopes rl rp : ℕ) → oneBlockNumber s goals history x value slopes (numberRoomIn n) rl rp ≡ 9
+    unfolding recordRefusal
+    one-block-ragged-record-joints value slopes rl rp =
+        record-refused value slopes (numberRoomIn n) rl rp (some-first _ _ 8 (ragged-numbers (entriesIn s) n entries-some m))
+
+    pub one-block-ragged-record-links : (value slopes rj rp : ℕ) → oneBlockNumber s goals history x value slopes rj (numberRoomIn n) rp ≡ 9
+    unfolding recordRefusal
+    one-block-ragged-record-links value slopes rj rp =
+        record-refused value slopes rj (numberRoomIn n) rp
+        (second-output (entriesIn s) rj _ (some-first _ _ 8 (ragged-numbers (entriesIn s) n entries-some m)))
