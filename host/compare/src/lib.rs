@@ -6,7 +6,6 @@
 
 #[cfg(feature = "arms")]
 pub mod arms;
-pub mod draw;
 #[cfg(feature = "arms")]
 mod found;
 pub mod geometry;
@@ -30,6 +29,7 @@ mod state;
 mod tally;
 pub mod target;
 
+pub use draw;
 use target::Target;
 
 /// Everything that is compared, by name. A further call is a further one.

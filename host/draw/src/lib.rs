@@ -1,7 +1,11 @@
 //! Where inputs come from: a small seeded generator, the edges every leaf is
 //! asked, and ways to draw floats, quaternions and vectors.
 
-use crate::target::Kind;
+#![forbid(unsafe_code)]
+
+pub mod kind;
+
+use kind::Kind;
 
 /// SplitMix64: quick, and every seed will do.
 pub struct Draw {

@@ -1,0 +1,63 @@
+-- `pose` meets its contract: the call is lent the record's lists, and outputs that are filled. Assumes nothing.
+use mathlib.Core.Path.{ap, _∙_}
+use mathlib.Core.List.{[], _∷_}
+use Rattle.lent_bytes.specs.Lent.{numbersIn, floatsIn, roomIn, bytesOf}
+use Rattle.lent_bytes.specs.SheetLists.{same-two, same-three, same-sheet}
+use Rattle.arm_bytes.specs.ArmCalls.{endPoses, poseNumber}
+use Rattle.replay.specs.Stored.{listOf}
+use Rattle.replay.specs.Agree.{filled-length, left-written, same-answer}
+use Rattle.replay.specs.Arms.{poseAgrees}
+use borrow.Author.Needs.{needs}
+use Rattle.replay.proofs.arm_cases.pose.Statement.{statement}
+use Rattle.replay.proofs.arm_cases.pose.Tie as tie
+
+list-requires : tie.Need-list-requires
+list-requires c κs = search needs
+
+list-requires-2 : tie.Need-list-requires-2
+list-requires-2 c κs = search needs
+
+list-requires-3 : tie.Need-list-requires-3
+list-requires-3 c κs = search needs
+
+list-requires-4 : tie.Need-list-requires-4
+list-requires-4 c κs = search needs
+
+list-requires-5 : tie.Need-list-requires-5
+list-requires-5 c κs = search needs
+
+pose-requires : tie.Need-pose-requires
+pose-requires c κs = search needs
+
+one-requires : tie.Need-one-requires
+one-requires c κs = search needs
+
+same-length : tie.Need-same-length
+same-length c = search needs
+
+returns : tie.Need-returns
+unfolding poseAgrees
+returns c =
+    let w = c .before .before .before .before in
+    let l = w .before .before in
+    let b = l .before .before .before .before .before .before .before in
+    let o = listOf (b .args .s .now) (b .args .at) in
+    let z = same-sheet (ap (numbersIn 5) (l .before .before .before .before .list .ensures .0)) (ap (numbersIn 64) (l .before .before .before .list2 .ensures .0)) (ap (floatsIn 448) (l .before .before .list3 .ensures .0)) (ap (floatsIn 32) (l .before .list4 .ensures .0)) in
+    let x = ap (floatsIn 16) (l .list5 .ensures .0) in
+    let n = w .pose .ensures .0 ∙ same-three poseNumber z x (ap roomIn (filled-length (o 5) (b .pre .1))) in
+    c .one .ensures ∙ same-answer _ _ 5 n (ap (λ a. a ∷ [])
+    (w .pose .ensures .1 ∙ left-written (o 5) n (b .pre .1) (ap bytesOf (same-two endPoses z x))))
+
+pub pose-spec : {M : Type 1} → statement M
+pose-spec =
+    tie.close
+    (tie.spec
+    list-requires
+    list-requires-2
+    list-requires-3
+    list-requires-4
+    list-requires-5
+    pose-requires
+    one-requires
+    same-length
+    returns)

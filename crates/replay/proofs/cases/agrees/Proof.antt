@@ -1,0 +1,92 @@
+-- `agrees` meets its contract: by the tests of the call's number. Assumes nothing.
+use borrow.Author.Tests.{eq-eqb, ne-eqb, lt-ltb, le-ltb}
+use Rattle.replay.specs.Cases.{callAgrees, recordAgrees}
+use borrow.Author.Needs.{needs}
+use Rattle.replay.proofs.cases.agrees.Statement.{statement}
+use Rattle.replay.proofs.cases.agrees.Tie as tie
+
+number-at-requires : tie.Need-number-at-requires
+number-at-requires c κs = search needs
+
+load-requires : tie.Need-load-requires
+load-requires c κs = search needs
+
+returns : tie.Need-returns
+unfolding recordAgrees callAgrees
+returns c =
+    let n = c .before .before in
+    rw (← n .number-at .ensures .0, eq-eqb _ 0 (c .before .if1 .taken)) (c .load .ensures)
+
+set-goals-requires : tie.Need-set-goals-requires
+set-goals-requires c κs = search needs
+
+returns-2 : tie.Need-returns-2
+unfolding recordAgrees callAgrees
+returns-2 c =
+    let n = c .before .before .before in
+    rw (← n .number-at .ensures .0, ne-eqb _ 0 (c .before .before .if1 .left), eq-eqb _ 1 (c .before .if2 .taken)) (c .set-goals .ensures)
+
+one-output-requires : tie.Need-one-output-requires
+one-output-requires c κs = search needs
+
+returns-3 : tie.Need-returns-3
+unfolding recordAgrees callAgrees
+returns-3 c =
+    let n = c .before .before .before .before in
+    rw (← n .number-at .ensures .0, ne-eqb _ 0 (c .before .before .before .if1 .left), ne-eqb _ 1 (c .before .before .if2 .left), lt-ltb _ 6 (c .before .if3 .taken)) (c .one-output .ensures)
+
+two-outputs-requires : tie.Need-two-outputs-requires
+two-outputs-requires c κs = search needs
+
+returns-4 : tie.Need-returns-4
+unfolding recordAgrees callAgrees
+returns-4 c =
+    let n = c .before .before .before .before .before in
+    rw (← n .number-at .ensures .0, ne-eqb _ 0 (c .before .before .before .before .if1 .left), ne-eqb _ 1 (c .before .before .before .if2 .left), le-ltb _ 6 (c .before .before .if3 .left), lt-ltb _ 8 (c .before .if4 .taken)) (c .two-outputs .ensures)
+
+three-outputs-requires : tie.Need-three-outputs-requires
+three-outputs-requires c κs = search needs
+
+returns-5 : tie.Need-returns-5
+unfolding recordAgrees callAgrees
+returns-5 c =
+    let n = c .before .before .before .before .before .before in
+    rw (← n .number-at .ensures .0, ne-eqb _ 0 (c .before .before .before .before .before .if1 .left), ne-eqb _ 1 (c .before .before .before .before .if2 .left), le-ltb _ 6 (c .before .before .before .if3 .left), le-ltb _ 8 (c .before .before .if4 .left), lt-ltb _ 10 (c .before .if5 .taken)) (c .three-outputs .ensures)
+
+five-outputs-requires : tie.Need-five-outputs-requires
+five-outputs-requires c κs = search needs
+
+returns-6 : tie.Need-returns-6
+unfolding recordAgrees callAgrees
+returns-6 c =
+    let n = c .before .before .before .before .before .before .before in
+    rw (← n .number-at .ensures .0, ne-eqb _ 0 (c .before .before .before .before .before .before .if1 .left), ne-eqb _ 1 (c .before .before .before .before .before .if2 .left), le-ltb _ 6 (c .before .before .before .before .if3 .left), le-ltb _ 8 (c .before .before .before .if4 .left), le-ltb _ 10 (c .before .before .if5 .left), eq-eqb _ 10 (c .before .if6 .taken)) (c .five-outputs .ensures)
+
+leaf-requires : tie.Need-leaf-requires
+leaf-requires c κs = search needs
+
+returns-7 : tie.Need-returns-7
+unfolding recordAgrees callAgrees
+returns-7 c =
+    let n = c .before .before .before .before .before .before .before in
+    rw (← n .number-at .ensures .0, ne-eqb _ 0 (c .before .before .before .before .before .before .if1 .left), ne-eqb _ 1 (c .before .before .before .before .before .if2 .left), le-ltb _ 6 (c .before .before .before .before .if3 .left), le-ltb _ 8 (c .before .before .before .if4 .left), le-ltb _ 10 (c .before .before .if5 .left), ne-eqb _ 10 (c .before .if6 .left)) (c .leaf .ensures)
+
+pub agrees-spec : {M : Type 1} → statement M
+agrees-spec =
+    tie.close
+    (tie.spec
+    number-at-requires
+    load-requires
+    returns
+    set-goals-requires
+    returns-2
+    one-output-requires
+    returns-3
+    two-outputs-requires
+    returns-4
+    three-outputs-requires
+    returns-5
+    five-outputs-requires
+    returns-6
+    leaf-requires
+    returns-7)

@@ -1,0 +1,12 @@
+-- `buffer` meets its contract: each byte is the one that it is filled with. Assumes nothing.
+use mathlib.Core.Path.{refl}
+use Rattle.replay.specs.Agree.{fill}
+use Rattle.replay.proofs.cases.buffer.Statement.{statement}
+use Rattle.replay.proofs.cases.buffer.Tie as tie
+
+returns : tie.Need-returns
+unfolding fill
+returns c = (refl, refl)
+
+pub buffer-spec : {M : Type 1} → statement M
+buffer-spec = tie.close (tie.spec returns)

@@ -1,0 +1,33 @@
+-- `groove_loss` meets its contract: by what its calls ensure. Assumes nothing.
+use borrow.Author.Needs.{needs}
+use Rattle.replay.proofs.leaves.groove_loss.Statement.{statement}
+use Rattle.replay.proofs.leaves.groove_loss.Tie as tie
+
+float-at-requires : tie.Need-float-at-requires
+float-at-requires c κs = search needs
+
+float-at-requires-2 : tie.Need-float-at-requires-2
+float-at-requires-2 c κs = search needs
+
+float-at-requires-3 : tie.Need-float-at-requires-3
+float-at-requires-3 c κs = search needs
+
+float-at-requires-4 : tie.Need-float-at-requires-4
+float-at-requires-4 c κs = search needs
+
+groove-loss-requires : tie.Need-groove-loss-requires
+groove-loss-requires c κs = search needs
+
+returns : tie.Need-returns
+returns c = cc
+
+pub groove-loss-spec : {M : Type 1} → statement M
+groove-loss-spec =
+    tie.close
+    (tie.spec
+    float-at-requires
+    float-at-requires-2
+    float-at-requires-3
+    float-at-requires-4
+    groove-loss-requires
+    returns)

@@ -1,0 +1,96 @@
+-- `gradient_one_block` meets its contract: the call is lent the record's lists, and outputs that are filled. Assumes nothing.
+use mathlib.Core.Path.{ap, _∙_}
+use mathlib.Core.List.{[], _∷_}
+use native.Mathlib.Omega.{arith}
+use Rattle.lent_bytes.specs.Lent.{numbersIn, floatsIn, roomIn, numberRoomIn, bytesOf, bytesOfNumbers}
+use Rattle.lent_bytes.specs.SheetLists.{same-two, same-sheet}
+use Rattle.objective_bytes.specs.ObjectiveCalls.{gradientSlopes, objectiveValue}
+use Rattle.one_block_bytes.specs.OneBlockCalls.{jointsIn, linksIn, oneBlockNumber, posesIn}
+use Rattle.replay.specs.Same.{same-four, same-five, same-nine}
+use Rattle.replay.specs.Stored.{listOf}
+use Rattle.replay.specs.Agree.{filled-length, left-written, same-answer}
+use Rattle.replay.specs.Objectives.{oneBlockAgrees}
+use borrow.Author.Needs.{needs}
+use Rattle.replay.proofs.objective_cases.gradient_one_block.Statement.{statement}
+use Rattle.replay.proofs.objective_cases.gradient_one_block.Tie as tie
+
+list-requires : tie.Need-list-requires
+list-requires c κs = search needs
+
+list-requires-2 : tie.Need-list-requires-2
+list-requires-2 c κs = search needs
+
+list-requires-3 : tie.Need-list-requires-3
+list-requires-3 c κs = search needs
+
+list-requires-4 : tie.Need-list-requires-4
+list-requires-4 c κs = search needs
+
+list-requires-5 : tie.Need-list-requires-5
+list-requires-5 c κs = search needs
+
+list-requires-6 : tie.Need-list-requires-6
+list-requires-6 c κs = search needs
+
+list-requires-7 : tie.Need-list-requires-7
+list-requires-7 c κs = search needs
+
+gradient-one-block-requires : tie.Need-gradient-one-block-requires
+gradient-one-block-requires c κs = search needs
+
+five-requires : tie.Need-five-requires
+five-requires c κs = (c .before .before .before .before .before .before .before .before .before .before .before .before .before .before .before .before .before .before .before .before .before .before .before .before .before .before .before .before .before .before .before .before .before .before .pre .0, omega arith)
+
+same-length : tie.Need-same-length
+same-length c = search needs
+
+same-length-2 : tie.Need-same-length-2
+same-length-2 c = search needs
+
+same-length-3 : tie.Need-same-length-3
+same-length-3 c = search needs
+
+same-length-4 : tie.Need-same-length-4
+same-length-4 c = search needs
+
+same-length-5 : tie.Need-same-length-5
+same-length-5 c = search needs
+
+returns : tie.Need-returns
+unfolding oneBlockAgrees
+returns c =
+    let w = c .before .before .before .before .before .before .before .before .before .before .before .before .before .before .before .before in
+    let l = w .before .before .before .before .before .before in
+    let b = l .before .before .before .before .before .before .before .before .before .before .before .before .before in
+    let o = listOf (b .args .s .now) (b .args .at) in
+    let z = same-sheet (ap (numbersIn 5) (l .before .before .before .before .before .before .list .ensures .0)) (ap (numbersIn 64) (l .before .before .before .before .before .list2 .ensures .0)) (ap (floatsIn 448) (l .before .before .before .before .list3 .ensures .0)) (ap (floatsIn 32) (l .before .before .before .list4 .ensures .0)) in
+    let g = ap (floatsIn 52) (l .before .before .list5 .ensures .0) in
+    let h = ap (floatsIn 64) (l .before .list6 .ensures .0) in
+    let x = ap (floatsIn 16) (l .list7 .ensures .0) in
+    let n = w .gradient-one-block .ensures .0 ∙ same-nine oneBlockNumber z g h x (ap roomIn (filled-length (o 7) (b .pre .1 .0))) (ap roomIn (filled-length (o 8) (b .pre .1 .1))) (ap numberRoomIn (filled-length (o 9) (b .pre .1 .2))) (ap numberRoomIn (filled-length (o 10) (b .pre .1 .3))) (ap roomIn (filled-length (o 11) (b .pre .1 .4))) in
+    c .five .ensures ∙ same-answer _ _ 7 n (same-five (λ a b c d e. a ∷ b ∷ c ∷ d ∷ e ∷ [])
+    (w .gradient-one-block .ensures .1 .0 ∙ left-written (o 7) n (b .pre .1 .0) (ap bytesOf (same-four objectiveValue z g h x)))
+    (w .gradient-one-block .ensures .1 .1 .0 ∙ left-written (o 8) n (b .pre .1 .1) (ap bytesOf (same-four gradientSlopes z g h x)))
+    (w .gradient-one-block .ensures .1 .1 .1 .0 ∙ left-written (o 9) n (b .pre .1 .2) (ap bytesOfNumbers (ap jointsIn z)))
+    (w .gradient-one-block .ensures .1 .1 .1 .1 ∙ left-written (o 10) n (b .pre .1 .3) (ap bytesOfNumbers (ap linksIn z)))
+    (w .gradient-one-block .ensures .1 .1 .1 .2 ∙ left-written (o 11) n (b .pre .1 .4) (ap bytesOf (same-two posesIn z x))))
+
+pub gradient-one-block-spec : {M : Type 1} → statement M
+gradient-one-block-spec =
+    tie.close
+    (tie.spec
+    list-requires
+    list-requires-2
+    list-requires-3
+    list-requires-4
+    list-requires-5
+    list-requires-6
+    list-requires-7
+    gradient-one-block-requires
+    five-requires
+    same-length
+    same-length-2
+    same-length-3
+    same-length-4
+    same-length-5
+    returns)

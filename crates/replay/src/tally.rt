@@ -1,0 +1,78 @@
+// How many of a call's records there are, and how many differ.
+use crate::cases;
+use crate::stored;
+ghost use mathlib.Core.Path.{_≡_};
+ghost use Prim.Native.Nat.{_+_, _≤_, _^_};
+ghost use Rattle.replay.specs.Tally.{listsOf, endOf, isCase, isDifferent, casesOf, differOf};
+
+pub struct Counts {
+    pub cases: usize,
+    pub differ: usize,
+}
+
+// How many lists a record of the call has.
+fn lists(call: usize) -> usize
+    ensures { λ r. ⌜ (r ≡ listsOf call) × (r ≤ 12) ⌝ }
+{
+    match call {
+        0 => return 4,
+        1 => return 5,
+        2 => return 6,
+        3 => return 6,
+        4 => return 7,
+        5 => return 8,
+        6 => return 7,
+        7 => return 7,
+        8 => return 10,
+        9 => return 10,
+        10 => return 12,
+        _ => return 2,
+    }
+}
+
+// Where the record at `at` ends.
+pub fn record_end(s: &[u8], at: usize) -> usize
+    requires { ⌜ at ≤ 2 ^ 40 ⌝ }
+    ensures { λ r. ⌜ (r ≡ endOf (now (s .entry)) at) × (r ≤ at + 786448) ⌝ }
+{
+    stored::place(s, at, lists(stored::number_at(s, at)))
+}
+
+// The tally with the record at `at`, where it is one of the call.
+fn counted(s: &[u8], at: usize, call: usize, t: Counts) -> Counts
+    requires { ⌜ (at ≤ 2 ^ 40) × (t .cases ≤ 65535) × (t .differ ≤ 65535) ⌝ }
+    ensures { λ r. ⌜ (r .cases ≡ t .cases + isCase (now (s .entry)) call at) × (r .cases ≤ t .cases + 1)
+        × (r .differ ≡ t .differ + isDifferent (now (s .entry)) call at) × (r .differ ≤ t .differ + 1) ⌝ }
+{
+    if stored::number_at(s, at) != call {
+        return t;
+    }
+    if cases::agrees(s, at) {
+        return Counts {
+            cases: t.cases + 1,
+            differ: t.differ,
+        };
+    }
+    Counts {
+        cases: t.cases + 1,
+        differ: t.differ + 1,
+    }
+}
+
+pub fn tally(s: &[u8], call: usize) -> Counts
+    ensures { λ r. ⌜ (r .cases ≡ casesOf (now (s .entry)) call) × (r .differ ≡ differOf (now (s .entry)) call) × (r .cases ≤ 65535) × (r .differ ≤ 65535) ⌝ }
+{
+    let n = stored::number_at(s, 0);
+    let mut t = Counts {
+        cases: 0,
+        differ: 0,
+    };
+    let mut at: usize = 2;
+    let mut i: usize = 0;
+    while i < n {
+        t = counted(s, at, call, t);
+        at = record_end(s, at);
+        i += 1;
+    }
+    t
+}

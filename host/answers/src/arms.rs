@@ -1,0 +1,261 @@
+//! The byte calls: what they are lent, and what the reference answers.
+
+use crate::record::{answer_bytes, float_bytes, u16_bytes, Record, FILL};
+use reference::groove::objective_master::ObjectiveMaster;
+use reference::record::record;
+use reference::refusals::{self, f64s, u16s, RecordRoom, Room};
+use reference::sheet;
+
+/// By their numbers in the stored list.
+#[derive(Clone, Copy, Debug, PartialEq)]
+pub enum Call {
+    Load,
+    SetGoals,
+    Pose,
+    Manipulability,
+    Update,
+    Objective,
+    Frames,
+    Reset,
+    Gradient,
+    GradientFiniteDiff,
+    GradientOneBlock,
+}
+
+pub const CALLS: [Call; 11] = [
+    Call::Load,
+    Call::SetGoals,
+    Call::Pose,
+    Call::Manipulability,
+    Call::Update,
+    Call::Objective,
+    Call::Frames,
+    Call::Reset,
+    Call::Gradient,
+    Call::GradientFiniteDiff,
+    Call::GradientOneBlock,
+];
+
+/// The lists that are read, in the order of the byte calls.
+#[derive(Clone, Copy, Debug, PartialEq)]
+pub enum List {
+    Sizes,
+    Codes,
+    Floats,
+    Limits,
+    Goals,
+    History,
+    Joints,
+}
+
+use List::{Codes, Floats, Goals, History, Joints, Limits, Sizes};
+
+impl Call {
+    pub fn read(self) -> &'static [List] {
+        match self {
+            Call::Load => &[Sizes, Codes, Floats, Limits],
+            Call::SetGoals => &[Sizes, Codes, Floats, Limits, Goals],
+            Call::Update => &[Sizes, Codes, Floats, Limits, History, Joints],
+            Call::Objective
+            | Call::Gradient
+            | Call::GradientFiniteDiff
+            | Call::GradientOneBlock => &[Sizes, Codes, Floats, Limits, Goals, History, Joints],
+            _ => &[Sizes, Codes, Floats, Limits, Joints],
+        }
+    }
+
+    /// Of each output how many numbers it needs, and the bytes of one.
+    pub fn needs(self, counts: &Counts) -> Vec<(usize, usize)> {
+        let Counts {
+            chains,
+            links,
+            joints,
+            walked,
+        } = *counts;
+        let floats: Vec<usize> = match self {
+            Call::Load | Call::SetGoals => vec![],
+            Call::Pose => vec![7 * chains],
+            Call::Manipulability | Call::Objective => vec![1],
+            Call::Update => vec![4 * joints],
+            Call::Frames => vec![3 * (links + chains), 4 * (links + 2 * chains)],
+            Call::Reset => vec![4 * joints, 7 * chains],
+            Call::Gradient | Call::GradientFiniteDiff => vec![joints, 1, joints],
+            Call::GradientOneBlock => {
+                return vec![
+                    (1, 8),
+                    (joints, 8),
+                    (walked, 2),
+                    (walked, 2),
+                    (7 * walked, 8),
+                ]
+            }
+        };
+        floats.into_iter().map(|count| (count, 8)).collect()
+    }
+}
+
+/// What a sheet of some shape has.
+#[derive(Clone, Copy, Debug, Default)]
+pub struct Counts {
+    pub chains: usize,
+    pub links: usize,
+    pub joints: usize,
+    /// Links that the one-block gradient walks.
+    pub walked: usize,
+}
+
+/// The lists that a call is lent, as bytes.
+#[derive(Clone, Debug, Default)]
+pub struct Lent {
+    pub bytes: [Vec<u8>; 7],
+    pub counts: Counts,
+}
+
+impl Lent {
+    pub fn get(&self, list: List) -> &[u8] {
+        &self.bytes[list as usize]
+    }
+
+    pub fn set(&mut self, list: List, floats: &[f64]) {
+        self.bytes[list as usize] = float_bytes(floats);
+    }
+
+    pub fn floats(&self, list: List) -> Vec<f64> {
+        let mut floats = Vec::new();
+        f64s(self.get(list), &mut floats);
+        floats
+    }
+}
+
+/// The record of a call that is lent these lists and outputs of so many bytes.
+pub fn asked(call: Call, lent: &Lent, rooms: &[usize]) -> Record {
+    let (number, written) = answer(call, lent, rooms);
+    let mut lists: Vec<Vec<u8>> = call.read().iter().map(|&l| lent.get(l).to_vec()).collect();
+    for (at, &room) in rooms.iter().enumerate() {
+        let mut output = vec![FILL; room];
+        if number == refusals::ACCEPTED {
+            output[..written[at].len()].copy_from_slice(&written[at]);
+        }
+        lists.push(output);
+    }
+    Record {
+        call: call as u16,
+        number,
+        lists,
+    }
+}
+
+/// The number, and what is written if that is 0.
+fn answer(call: Call, lent: &Lent, rooms: &[usize]) -> (u32, Vec<Vec<u8>>) {
+    let (mut sizes, mut codes) = (Vec::new(), Vec::new());
+    let (mut floats, mut limits) = (Vec::new(), Vec::new());
+    let (mut goals, mut history, mut joints) = (Vec::new(), Vec::new(), Vec::new());
+    let sheet = refusals::Sheet {
+        sizes: u16s(lent.get(Sizes), &mut sizes),
+        codes: u16s(lent.get(Codes), &mut codes),
+        floats: f64s(lent.get(Floats), &mut floats),
+        limits: f64s(lent.get(Limits), &mut limits),
+    };
+    let given = refusals::Given {
+        sheet,
+        goals: f64s(lent.get(Goals), &mut goals),
+        history: f64s(lent.get(History), &mut history),
+    };
+    let number = refusal(call, &given, f64s(lent.get(Joints), &mut joints), rooms);
+    if number != refusals::ACCEPTED || rooms.is_empty() {
+        return (number, Vec::new());
+    }
+    let robot = sheet::robot(&sizes, &codes, &floats, &limits);
+    (number, written(call, robot, &goals, &history, &joints))
+}
+
+fn refusal(
+    call: Call,
+    given: &refusals::Given,
+    joints: refusals::List<f64>,
+    rooms: &[usize],
+) -> u32 {
+    let sheet = &given.sheet;
+    let room = |at: usize| Room::of_bytes(rooms[at]);
+    match call {
+        Call::Load => refusals::load(sheet),
+        Call::SetGoals => refusals::set_goals(sheet, given.goals),
+        Call::Pose => refusals::pose(sheet, joints, room(0)),
+        Call::Manipulability => refusals::manipulability(sheet, joints, room(0)),
+        Call::Update => refusals::update(sheet, given.history, joints, room(0)),
+        Call::Objective => refusals::objective(given, joints, room(0)),
+        Call::Frames => refusals::frames(sheet, joints, room(0), room(1)),
+        Call::Reset => refusals::reset(sheet, joints, room(0), room(1)),
+        Call::Gradient | Call::GradientFiniteDiff => {
+            refusals::gradient(given, joints, room(0), room(1), room(2))
+        }
+        Call::GradientOneBlock => {
+            let record = RecordRoom {
+                joints: Room::of_u16_bytes(rooms[2]),
+                links: Room::of_u16_bytes(rooms[3]),
+                poses: room(4),
+            };
+            refusals::gradient_one_block(given, joints, room(0), room(1), record)
+        }
+    }
+}
+
+/// What the published functions answer, laid out as bytes.
+fn written(
+    call: Call,
+    robot: reference::spacetime::robot::Robot,
+    goals: &[f64],
+    history: &[f64],
+    joints: &[f64],
+) -> Vec<Vec<u8>> {
+    let floats = |lists: &[&[f64]]| lists.iter().map(|list| answer_bytes(list)).collect();
+    match call {
+        Call::Load | Call::SetGoals => Vec::new(),
+        Call::Pose => floats(&[&sheet::ends(&robot, joints)]),
+        Call::Manipulability => floats(&[&[robot.get_manipulability_immutable(joints)]]),
+        Call::Frames => {
+            let (positions, rotations) = sheet::frames(&robot, joints);
+            floats(&[&positions, &rotations])
+        }
+        Call::Reset => {
+            let mut vars = sheet::loaded(robot);
+            vars.reset(joints.to_vec());
+            floats(&[&sheet::history(&vars), &sheet::start_ends(&vars)])
+        }
+        Call::Update => {
+            let mut vars = sheet::loaded(robot);
+            sheet::set_history(&mut vars, history);
+            vars.update(joints.to_vec());
+            floats(&[&sheet::history(&vars)])
+        }
+        _ => aimed(call, robot, goals, history, joints),
+    }
+}
+
+/// The calls on goals and history. The one-block gradient is `gradient`'s, its
+/// record that of walks of separate copies.
+fn aimed(
+    call: Call,
+    robot: reference::spacetime::robot::Robot,
+    goals: &[f64],
+    history: &[f64],
+    joints: &[f64],
+) -> Vec<Vec<u8>> {
+    let walks = record(&robot, joints);
+    let master = ObjectiveMaster::relaxed_ik(&robot.chain_lengths);
+    let vars = sheet::lent(robot, goals, history);
+    if call == Call::Objective {
+        return vec![answer_bytes(&[master.call(joints, &vars)])];
+    }
+    let (value, slopes) = match call {
+        Call::GradientFiniteDiff => master.gradient_finite_diff(joints, &vars),
+        _ => master.gradient(joints, &vars),
+    };
+    let (value, slopes) = (answer_bytes(&[value]), answer_bytes(&slopes));
+    if call == Call::GradientOneBlock {
+        let (raised, links) = (u16_bytes(&walks.joints), u16_bytes(&walks.links));
+        return vec![value, slopes, raised, links, answer_bytes(&walks.poses)];
+    }
+    // The scratch list ends equal to the joints.
+    vec![answer_bytes(joints), value, slopes]
+}
