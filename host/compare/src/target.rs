@@ -30,11 +30,11 @@ const fn pace(divisor: u64, share: u64, block: u64) -> Pace {
 pub const CONSTANT: Pace = pace(1, 0, 1);
 pub const LEAF: Pace = pace(1, 10, 2_000_000);
 #[cfg(feature = "arms")]
-pub const ARMS: Pace = pace(1, 80, 400_000);
+pub const ARMS: Pace = pace(1, 90, 400_000);
 #[cfg(feature = "objective")]
-pub const OBJECTIVE: Pace = pace(20, 60, 100_000);
+pub const OBJECTIVE: Pace = pace(20, 80, 100_000);
 #[cfg(feature = "objective")]
-pub const SLOPES: Pace = pace(100, 40, 10_000);
+pub const SLOPES: Pace = pace(100, 10, 10_000);
 #[cfg(feature = "objective")]
 pub const TOGETHER: Pace = pace(200, 10, 10_000);
 
