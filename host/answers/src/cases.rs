@@ -113,6 +113,7 @@ fn limits(draw: &mut Draw) -> [f64; 2] {
 }
 
 /// A groove, a swamp with a groove, or a swamp; the ends among them.
+#[allow(clippy::approx_constant)]
 fn tolerance(draw: &mut Draw) -> f64 {
     let bound = draw.between(0.01, 3.2);
     draw.pick(&[

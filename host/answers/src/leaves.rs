@@ -8,7 +8,7 @@ use parry3d_f64::{query, shape::Segment};
 use reference::groove::objective::{groove_loss, swamp_groove_loss, swamp_loss};
 use reference::losses;
 use reference::spacetime::arm::{get_quat_x, get_quat_y, get_quat_z};
-use standins::{atan2, b, cos, cut, exp, powi, sin};
+use standins::{atan2, b, cos, cut, exp, powi, sin, sqrt};
 
 /// Draws of each leaf besides its edges.
 const DRAWS: usize = 6;
@@ -53,7 +53,7 @@ fn gram(columns: &[f64]) -> Vec<f64> {
 /// A leaf by its number in the stored list.
 fn answer(call: u16, x: &[f64]) -> Vec<f64> {
     match call {
-        11 => vec![x[0].sqrt()],
+        11 => vec![sqrt(x[0])],
         12 => vec![sin(x[0])],
         13 => vec![cos(x[0])],
         14 => vec![exp(x[0])],
@@ -117,6 +117,7 @@ fn singles(call: u16, draw: &mut Draw) -> Vec<Vec<f64>> {
 }
 
 /// Losses: x inside, at the ends and beyond; tolerances of every kind.
+#[allow(clippy::approx_constant)]
 fn loss_arguments(call: u16, draw: &mut Draw) -> Vec<Vec<f64>> {
     let bounds = [0.0, 0.01, 0.01f64.next_up(), 0.05, 1.5, 3.1415926, 3.2];
     let mut all = Vec::new();
