@@ -5,11 +5,10 @@
 //! have the plain reading of the refusals on the other side.
 
 use crate::{Draw, Rows};
-use proved::arms::{self, Sheet};
-use proved::{put_floats, put_u16s};
 use reference::refusals::{self, f64s, u16s};
 use reference::sheet;
 use reference::spacetime::robot::Robot;
+use relaxed_ik::bytes::{self, put_floats, put_u16s, Sheet};
 use std::cell::RefCell;
 
 /// Chains that turn at every link, axes in turn, in numbers and in bytes.
@@ -172,14 +171,14 @@ fn checks(rows: &mut Rows, draw: &mut Draw, label: &str, chains: &Chains) {
     rows.row(
         &format!("load, {label}"),
         &sheets,
-        |(chains, _)| f64::from(arms::load(chains.sheet())),
+        |(chains, _)| f64::from(bytes::load(chains.sheet())),
         |(chains, _)| f64::from(refusals::load(&decoded.borrow_mut().sheet(chains))),
     );
     let numbers = RefCell::new(Vec::new());
     rows.row(
         &format!("set_goals, {label}"),
         &sheets,
-        |(chains, block)| f64::from(arms::set_goals(chains.sheet(), &block.goals_bytes)),
+        |(chains, block)| f64::from(bytes::set_goals(chains.sheet(), &block.goals_bytes)),
         |(chains, block)| {
             let (decoded, numbers) = (&mut *decoded.borrow_mut(), &mut *numbers.borrow_mut());
             let goals = f64s(&block.goals_bytes, numbers);
@@ -201,7 +200,7 @@ fn walks(rows: &mut Rows, label: &str, chains: &Chains, blocks: &[Block]) {
             } = &mut *outputs.borrow_mut();
             let sheet = chains.sheet();
             last(
-                arms::frames(sheet, &block.joints_bytes, positions, rotations),
+                bytes::frames(sheet, &block.joints_bytes, positions, rotations),
                 rotations,
             )
         },
@@ -216,7 +215,7 @@ fn walks(rows: &mut Rows, label: &str, chains: &Chains, blocks: &[Block]) {
         blocks,
         |block| {
             let ends = &mut outputs.borrow_mut().ends;
-            last(arms::pose(chains.sheet(), &block.joints_bytes, ends), ends)
+            last(bytes::pose(chains.sheet(), &block.joints_bytes, ends), ends)
         },
         |block| {
             let ends = chains.robot.get_ee_pos_and_quat_immutable(&block.joints);
@@ -228,7 +227,7 @@ fn walks(rows: &mut Rows, label: &str, chains: &Chains, blocks: &[Block]) {
         blocks,
         |block| {
             let value = &mut outputs.borrow_mut().value;
-            let answer = arms::manipulability(chains.sheet(), &block.joints_bytes, value);
+            let answer = bytes::manipulability(chains.sheet(), &block.joints_bytes, value);
             last(answer, value)
         },
         |block| chains.robot.get_manipulability_immutable(&block.joints),
@@ -245,7 +244,7 @@ fn histories(rows: &mut Rows, label: &str, chains: &Chains, blocks: &[Block]) {
         blocks,
         |block| {
             let Outputs { history, ends, .. } = &mut *outputs.borrow_mut();
-            let answer = arms::reset(chains.sheet(), &block.joints_bytes, history, ends);
+            let answer = bytes::reset(chains.sheet(), &block.joints_bytes, history, ends);
             last(answer, ends)
         },
         |block| {
@@ -267,7 +266,7 @@ fn histories(rows: &mut Rows, label: &str, chains: &Chains, blocks: &[Block]) {
                 joints_bytes,
                 ..
             } = block;
-            let answer = arms::update(chains.sheet(), history_bytes, joints_bytes, history);
+            let answer = bytes::update(chains.sheet(), history_bytes, joints_bytes, history);
             assert_eq!(answer, refusals::ACCEPTED);
             first(history)
         },

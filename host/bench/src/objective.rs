@@ -4,12 +4,12 @@
 
 use crate::arms::{first, Chains};
 use crate::{Draw, Rows};
-use proved::objective::{self, Given, Record};
-use proved::{losses as proved_losses, put_floats};
 use reference::groove::objective::{groove_loss, swamp_groove_loss, swamp_loss};
 use reference::groove::objective_master::ObjectiveMaster;
 use reference::groove::vars::RelaxedIKVars;
 use reference::{losses as published, record, refusals, sheet};
+use relaxed_ik::bytes::{self, put_floats, Given, Record};
+use relaxed_ik::leaves;
 use std::cell::RefCell;
 
 /// Few enough for the slowest row, which takes half a millisecond a call.
@@ -22,20 +22,20 @@ pub fn losses(rows: &mut Rows, draw: &mut Draw) {
     rows.row(
         "groove_loss",
         &distances,
-        |x| proved_losses::groove_loss(*x, 0.0, 0.1, 10.0),
+        |x| leaves::groove_loss(*x, 0.0, 0.1, 10.0),
         |x| groove_loss(*x, 0.0, 2, 0.1, 10.0, 2),
     );
     rows.row(
         "swamp_groove_loss",
         &distances,
-        |x| proved_losses::swamp_groove_loss(*x, 0.0, -0.5, 0.5, 1.0, 1.0, 0.01, 100.0),
+        |x| leaves::swamp_groove_loss(*x, 0.0, -0.5, 0.5, 1.0, 1.0, 0.01, 100.0),
         |x| swamp_groove_loss(*x, 0.0, -0.5, 0.5, 1.0, 1.0, 0.01, 100.0, 20),
     );
     for power in [20, 30] {
         rows.row(
             &format!("swamp_loss, power {power}"),
             &distances,
-            |x| proved_losses::swamp_loss(*x, 0.02, 1.5, 60.0, 0.0001, power),
+            |x| leaves::swamp_loss(*x, 0.02, 1.5, 60.0, 0.0001, power),
             |x| swamp_loss(*x, 0.02, 1.5, 60.0, 0.0001, i32::from(power)),
         );
     }
@@ -43,13 +43,13 @@ pub fn losses(rows: &mut Rows, draw: &mut Draw) {
     rows.row(
         "loss_position",
         &bounded,
-        |[x, bound]| proved_losses::position(*x, *bound),
+        |[x, bound]| leaves::loss_position(*x, *bound),
         |[x, bound]| published::position(*x, *bound),
     );
     rows.row(
         "loss_rotation",
         &bounded,
-        |[x, bound]| proved_losses::rotation(*x, *bound),
+        |[x, bound]| leaves::loss_rotation(*x, *bound),
         |[x, bound]| published::rotation(*x, *bound),
     );
     let limited = published::limited(-3.0, 3.0);
@@ -57,7 +57,7 @@ pub fn losses(rows: &mut Rows, draw: &mut Draw) {
     rows.row(
         "loss_limits",
         &joints,
-        |x| proved_losses::limits(*x, -3.0, 3.0),
+        |x| leaves::loss_limits(*x, -3.0, 3.0),
         |x| published::limits(*x, &limited),
     );
 }
@@ -149,7 +149,7 @@ pub fn rows(rows: &mut Rows, draw: &mut Draw, label: &str, chains: &Chains) {
         &states,
         |state| {
             let value = &mut lists.borrow_mut().value;
-            let answer = objective::objective(state.given(chains), &state.joints_bytes, value);
+            let answer = bytes::objective(state.given(chains), &state.joints_bytes, value);
             assert_eq!(answer, refusals::ACCEPTED);
             first(value)
         },
@@ -160,7 +160,7 @@ pub fn rows(rows: &mut Rows, draw: &mut Draw, label: &str, chains: &Chains) {
         &states,
         |state| {
             let lists = &mut *lists.borrow_mut();
-            let answer = objective::gradient(
+            let answer = bytes::gradient(
                 state.given(chains),
                 &state.joints_bytes,
                 &mut lists.scratch,
@@ -176,7 +176,7 @@ pub fn rows(rows: &mut Rows, draw: &mut Draw, label: &str, chains: &Chains) {
         &states,
         |state| {
             let lists = &mut *lists.borrow_mut();
-            let answer = objective::gradient_finite_diff(
+            let answer = bytes::gradient_finite_diff(
                 state.given(chains),
                 &state.joints_bytes,
                 &mut lists.scratch,
@@ -193,7 +193,7 @@ pub fn rows(rows: &mut Rows, draw: &mut Draw, label: &str, chains: &Chains) {
         &states,
         |state| {
             let lists = &mut *lists.borrow_mut();
-            let answer = objective::gradient_one_block(
+            let answer = bytes::gradient_one_block(
                 state.given(chains),
                 &state.joints_bytes,
                 &mut lists.value,

@@ -1,11 +1,11 @@
 //! Lists for the calls on arms: sheets that document 01 takes, with joints,
 //! histories and goals, and the ways to spoil them.
 
+use crate::draw::kind::Kind;
 use crate::draw::Draw;
-use crate::target::Kind;
-use proved::{put_floats, put_u16s};
 use reference::refusals::{self, f64s, u16s};
 use reference::sheet;
+use relaxed_ik::bytes::{put_floats, put_u16s};
 
 /// The lists that are read, in the order of the byte calls.
 #[derive(Clone, Copy, Debug, PartialEq)]

@@ -1,6 +1,6 @@
 //! What the library answers where a length, a part or a row names nothing: a
 //! NaN.
-use proved::*;
+use relaxed_ik::leaves::{determinant, gram, quat_product_part, scaled_axis_part};
 
 fn bytes(n: usize) -> Vec<u8> {
     1.0f64
