@@ -10,9 +10,9 @@ mod leaves;
 mod record;
 
 use draw::Draw;
+use std::fs;
 use std::path::Path;
 use std::process::ExitCode;
-use std::{env, fs};
 
 const USAGE: &str = "\
 answers FILE [--check]
@@ -49,26 +49,7 @@ fn check(path: &Path) -> Result<String, String> {
 }
 
 fn main() -> ExitCode {
-    let arguments: Vec<String> = env::args().skip(1).collect();
-    let words: Vec<&str> = arguments.iter().map(String::as_str).collect();
-    let done = match words[..] {
-        [path] if !path.starts_with('-') => write(Path::new(path)),
-        [path, "--check"] | ["--check", path] => check(Path::new(path)),
-        _ => {
-            eprintln!("{USAGE}");
-            return ExitCode::from(2);
-        }
-    };
-    match done {
-        Ok(line) => {
-            println!("{line}");
-            ExitCode::SUCCESS
-        }
-        Err(line) => {
-            println!("{line}");
-            ExitCode::FAILURE
-        }
-    }
+    command_line::write_or_check(USAGE, write, check)
 }
 
 #[cfg(test)]

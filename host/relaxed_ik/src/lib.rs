@@ -59,6 +59,9 @@ pub use refusal::Refusal;
 use bytes::{of_floats, of_floats_mut, of_u16s};
 use refusal::taken;
 
+/// The static library that the program is linked with: its name, length and sum.
+pub const LIBRARY: &str = env!("RELAXED_IK_LIBRARY");
+
 /// Floats a link: displacement, then offset w, i, j, k.
 pub const LINK_FLOATS: usize = 7;
 /// Floats a chain's goal: position, rotation w first, six tolerances.
