@@ -5,6 +5,7 @@
 //! have the plain reading of the refusals on the other side.
 
 use crate::{Draw, Rows};
+use reference::groove::vars::RelaxedIKVars;
 use reference::refusals::{self, f64s, u16s};
 use reference::sheet;
 use reference::spacetime::robot::Robot;
@@ -151,8 +152,10 @@ impl Decoded {
 pub fn rows(rows: &mut Rows, draw: &mut Draw, label: &str, chains: &Chains) {
     checks(rows, draw, label, chains);
     let blocks: Vec<Block> = (0..BLOCKS).map(|_| Block::new(chains, draw)).collect();
-    walks(rows, label, chains, &blocks);
-    histories(rows, label, chains, &blocks);
+    frames(rows, label, chains, &blocks);
+    ends(rows, label, chains, &blocks);
+    reset(rows, label, chains, &blocks);
+    update(rows, label, chains, &blocks);
 }
 
 /// Nothing published checks a sheet or goals: the other side is the plain
@@ -187,7 +190,7 @@ fn checks(rows: &mut Rows, draw: &mut Draw, label: &str, chains: &Chains) {
     );
 }
 
-fn walks(rows: &mut Rows, label: &str, chains: &Chains, blocks: &[Block]) {
+fn frames(rows: &mut Rows, label: &str, chains: &Chains, blocks: &[Block]) {
     let outputs = RefCell::new(Outputs::new(chains));
     rows.row(
         &format!("frames, {label}"),
@@ -210,6 +213,10 @@ fn walks(rows: &mut Rows, label: &str, chains: &Chains, blocks: &[Block]) {
             rotations[rotations.len() - 1].k
         },
     );
+}
+
+fn ends(rows: &mut Rows, label: &str, chains: &Chains, blocks: &[Block]) {
+    let outputs = RefCell::new(Outputs::new(chains));
     rows.row(
         &format!("pose, {label}"),
         blocks,
@@ -234,11 +241,15 @@ fn walks(rows: &mut Rows, label: &str, chains: &Chains, blocks: &[Block]) {
     );
 }
 
-fn histories(rows: &mut Rows, label: &str, chains: &Chains, blocks: &[Block]) {
-    let outputs = RefCell::new(Outputs::new(chains));
+/// The published variables after a first reset.
+fn started(chains: &Chains, blocks: &[Block]) -> RefCell<RelaxedIKVars> {
     let mut vars = sheet::loaded(chains.robot.clone());
     vars.reset(blocks[0].joints.clone());
-    let vars = RefCell::new(vars);
+    RefCell::new(vars)
+}
+
+fn reset(rows: &mut Rows, label: &str, chains: &Chains, blocks: &[Block]) {
+    let (outputs, vars) = (RefCell::new(Outputs::new(chains)), started(chains, blocks));
     rows.row(
         &format!("reset, {label}"),
         blocks,
@@ -253,8 +264,12 @@ fn histories(rows: &mut Rows, label: &str, chains: &Chains, blocks: &[Block]) {
             vars.init_ee_quats[vars.init_ee_quats.len() - 1].k
         },
     );
-    // The published update copies four blocks and looks at nothing; the checks
-    // are put before it.
+}
+
+/// The published update copies four blocks and looks at nothing; the checks are
+/// put before it.
+fn update(rows: &mut Rows, label: &str, chains: &Chains, blocks: &[Block]) {
+    let (outputs, vars) = (RefCell::new(Outputs::new(chains)), started(chains, blocks));
     let decoded = RefCell::new((Decoded::default(), Vec::new(), Vec::new()));
     rows.row(
         &format!("update, {label}"),

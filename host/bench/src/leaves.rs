@@ -12,6 +12,12 @@ fn unit(q: &[f64; 4]) -> UnitQuaternion<f64> {
 }
 
 pub fn rows(rows: &mut Rows, draw: &mut Draw) {
+    standins(rows, draw);
+    shapes(rows, draw);
+    determinant(rows, draw);
+}
+
+fn standins(rows: &mut Rows, draw: &mut Draw) {
     let radicands = draw.inputs(|d| d.between(0.0, 100.0));
     let root = |x: &f64| leaves::sqrt(*x);
     rows.row("sqrt, against digit by digit", &radicands, root, |x| {
@@ -38,9 +44,11 @@ pub fn rows(rows: &mut Rows, draw: &mut Draw) {
         |[n, w]| leaves::atan2(*n, *w),
         |[n, w]| standins::atan2(*n, *w),
     );
+}
 
-    // A proved function of several parts gives one a call; the reference is
-    // made to give all of its parts.
+/// A proved function of several parts gives one a call; the reference is made to
+/// give all of its parts.
+fn shapes(rows: &mut Rows, draw: &mut Draw) {
     let turns = draw.inputs(Draw::quaternion);
     rows.row(
         "scaled_axis, one part a call",
@@ -68,8 +76,10 @@ pub fn rows(rows: &mut Rows, draw: &mut Draw) {
                 .expect("segments can be measured")
         },
     );
+}
 
-    // Each side gets the matrix in the form it takes, made beforehand.
+/// Each side gets the matrix in the form it takes, made beforehand.
+fn determinant(rows: &mut Rows, draw: &mut Draw) {
     let matrices = draw.inputs(|d| {
         let entries = d.floats::<36>(-1.0, 1.0);
         let mut bytes = Vec::new();

@@ -39,6 +39,11 @@ pub fn losses(rows: &mut Rows, draw: &mut Draw) {
             |x| swamp_loss(*x, 0.02, 1.5, 60.0, 0.0001, i32::from(power)),
         );
     }
+    bounded_losses(rows, draw);
+}
+
+/// Under a tolerance, and between limits.
+fn bounded_losses(rows: &mut Rows, draw: &mut Draw) {
     let bounded = draw.inputs(|d| [d.between(-1.0, 1.0), d.between(-1.0, 4.0)]);
     rows.row(
         "loss_position",
@@ -127,17 +132,20 @@ impl Lists {
             record_poses: vec![0; 56 * walked],
         }
     }
+}
 
-    /// The value and the last slope, so that the sums show both.
-    fn shown(&self, answer: u32) -> f64 {
-        assert_eq!(answer, refusals::ACCEPTED);
-        first(&self.value) + first(&self.slopes[self.slopes.len() - 8..])
-    }
+/// The value and the last slope, so that the sums show both.
+fn shown_bytes(answer: u32, value: &[u8], slopes: &[u8]) -> f64 {
+    assert_eq!(answer, refusals::ACCEPTED);
+    first(value) + first(&slopes[slopes.len() - 8..])
 }
 
 fn shown((value, slopes): (f64, Vec<f64>)) -> f64 {
     value + slopes[slopes.len() - 1]
 }
+
+/// A call on two blocks: joints, then scratch, value and slopes.
+type TwoBlocks = fn(Given, &[u8], &mut [u8], &mut [u8], &mut [u8]) -> u32;
 
 pub fn rows(rows: &mut Rows, draw: &mut Draw, label: &str, chains: &Chains) {
     let states: Vec<State> = (0..STATES).map(|_| State::new(chains, draw)).collect();
@@ -147,65 +155,53 @@ pub fn rows(rows: &mut Rows, draw: &mut Draw, label: &str, chains: &Chains) {
     rows.row(
         &format!("objective, {label}"),
         &states,
-        |state| {
-            let value = &mut lists.borrow_mut().value;
-            let answer = bytes::objective(state.given(chains), &state.joints_bytes, value);
-            assert_eq!(answer, refusals::ACCEPTED);
-            first(value)
-        },
+        |state| value(&mut lists.borrow_mut(), state, chains),
         |state| master.call(&state.joints, &state.vars),
     );
     rows.row(
         &format!("gradient, {label}"),
         &states,
-        |state| {
-            let lists = &mut *lists.borrow_mut();
-            let answer = bytes::gradient(
-                state.given(chains),
-                &state.joints_bytes,
-                &mut lists.scratch,
-                &mut lists.value,
-                &mut lists.slopes,
-            );
-            lists.shown(answer)
-        },
+        |state| two_blocks(bytes::gradient, &mut lists.borrow_mut(), state, chains),
         |state| shown(master.gradient(&state.joints, &state.vars)),
     );
+    let coarse = bytes::gradient_finite_diff;
     rows.row(
         &format!("gradient_finite_diff, {label}"),
         &states,
-        |state| {
-            let lists = &mut *lists.borrow_mut();
-            let answer = bytes::gradient_finite_diff(
-                state.given(chains),
-                &state.joints_bytes,
-                &mut lists.scratch,
-                &mut lists.value,
-                &mut lists.slopes,
-            );
-            lists.shown(answer)
-        },
+        |state| two_blocks(coarse, &mut lists.borrow_mut(), state, chains),
         |state| shown(master.gradient_finite_diff(&state.joints, &state.vars)),
     );
     // The published gradient keeps no record; the ratio holds that too.
     rows.row(
         &format!("gradient_one_block, {label}"),
         &states,
-        |state| {
-            let lists = &mut *lists.borrow_mut();
-            let answer = bytes::gradient_one_block(
-                state.given(chains),
-                &state.joints_bytes,
-                &mut lists.value,
-                &mut lists.slopes,
-                Record {
-                    joints: &mut lists.record_joints,
-                    links: &mut lists.record_links,
-                    poses: &mut lists.record_poses,
-                },
-            );
-            lists.shown(answer)
-        },
+        |state| one_block(&mut lists.borrow_mut(), state, chains),
         |state| shown(master.gradient(&state.joints, &state.vars)),
     );
+}
+
+fn value(lists: &mut Lists, state: &State, chains: &Chains) -> f64 {
+    let value = &mut lists.value;
+    let answer = bytes::objective(state.given(chains), &state.joints_bytes, value);
+    assert_eq!(answer, refusals::ACCEPTED);
+    first(value)
+}
+
+fn two_blocks(call: TwoBlocks, lists: &mut Lists, state: &State, chains: &Chains) -> f64 {
+    let (scratch, given) = (&mut lists.scratch, state.given(chains));
+    let (value, slopes) = (&mut lists.value, &mut lists.slopes);
+    let answer = call(given, &state.joints_bytes, scratch, value, slopes);
+    shown_bytes(answer, value, slopes)
+}
+
+fn one_block(lists: &mut Lists, state: &State, chains: &Chains) -> f64 {
+    let record = Record {
+        joints: &mut lists.record_joints,
+        links: &mut lists.record_links,
+        poses: &mut lists.record_poses,
+    };
+    let (value, slopes) = (&mut lists.value, &mut lists.slopes);
+    let given = state.given(chains);
+    let answer = bytes::gradient_one_block(given, &state.joints_bytes, value, slopes, record);
+    shown_bytes(answer, value, slopes)
 }

@@ -29,15 +29,11 @@ pub struct Item {
     pub name: String,
     pub kind: Kind,
     pub place: Place,
-    /// Whether it stands in an `impl`, and is called behind a dot.
-    pub method: bool,
     /// The comment above it.
     pub about: String,
     pub clauses: Vec<Clause>,
     /// The types that a signature, a field or a case names.
     pub types: Names,
-    /// The functions and constants that the body names, as it writes them.
-    pub calls: Names,
 }
 
 #[derive(Debug)]
@@ -106,22 +102,6 @@ fn paths(text: &str) -> Vec<(&str, char)> {
     found
 }
 
-/// The functions that code calls and the constants that it names.
-fn calls(body: &str) -> Names {
-    let last = |path: &str| path.rsplit("::").next().unwrap_or(path).to_string();
-    let constant = |name: &str| {
-        name.len() > 1
-            && name.chars().all(|c| !c.is_ascii_lowercase())
-            && !name.starts_with(|c: char| c.is_ascii_digit())
-    };
-    let wanted = |(path, behind): &(&str, char)| *behind == '(' || constant(&last(path));
-    paths(body)
-        .into_iter()
-        .filter(wanted)
-        .map(|(path, _)| path.to_string())
-        .collect()
-}
-
 /// The types that a signature or a type's body names.
 fn types(text: &str) -> Names {
     let named = paths(text).into_iter().map(|(path, _)| path);
@@ -167,7 +147,6 @@ fn function(text: &str, open: usize, item: &mut Item) -> usize {
         let brace = brace_from(at);
         let end = closed(text, brace, '{', '}');
         let Some(clause) = clause(text, &(at..brace), &(brace..end), &bound) else {
-            item.calls = calls(&text[brace..end]);
             return end;
         };
         item.clauses.push(clause);
@@ -197,11 +176,9 @@ fn item(text: &str, bare: &str, at: usize, line: &str) -> Option<(Item, usize)> 
         name: name.to_string(),
         kind: Kind::Type,
         place: Place::default(),
-        method: line.starts_with(' '),
         about: about(text, first),
         clauses: Vec::new(),
         types: Names::new(),
-        calls: Names::new(),
     };
     let end = match word {
         "fn" => {
@@ -334,7 +311,7 @@ fn inner(x: f64) -> f64 {
     }
 
     #[test]
-    fn a_function_has_its_contract_and_its_calls() {
+    fn a_function_has_its_contract() {
         let file = parse(TEXT);
         let sum = &file.items[2];
         assert_eq!(sum.kind, Kind::Function { public: true });
@@ -351,10 +328,6 @@ fn inner(x: f64) -> f64 {
             ["now", "sumOf", "≡", "⊕"]
         );
         assert_eq!(sum.types.iter().collect::<Vec<_>>(), ["Pair", "State"]);
-        assert_eq!(
-            sum.calls.iter().collect::<Vec<_>>(),
-            ["LARGE", "bytes::first", "inner"]
-        );
         assert_eq!(file.items[0].types.iter().collect::<Vec<_>>(), ["Kind"]);
         assert_eq!(file.items[0].about, "Two floats.");
     }

@@ -34,7 +34,7 @@ const FILES: [(&str, &str); 15] = [
     ),
     (
         "crates/ground/must-fail/minus.edit",
-        "file: src/lib.rt\nold:     x + x\nnew:     x - x\n",
+        "calls: load\nfile: src/lib.rt\nold:     x + x\nnew:     x - x\n",
     ),
     ("crates/relaxed_ik/src/lib.rt", "pub mod state;\nmod inner;\n"),
     (
@@ -180,11 +180,32 @@ fn a_call_has_its_contract_its_numbers_and_its_edits() {
     ] {
         assert!(load.contains(cell), "{cell} is not in {load}");
     }
-    assert!(row("[`relaxed_ik_load`]").contains("| Doubles. |"));
+    let exported = row("[`relaxed_ik_load`]");
+    assert!(exported.contains("| Doubles. |"));
+    assert!(
+        !exported.contains("ground/minus"),
+        "an edit stands where its own line says, whatever the call runs"
+    );
     assert!(
         !calls.contains("hidden"),
         "a function of a private module is no call"
     );
+}
+
+#[test]
+fn an_edit_names_its_calls() {
+    let small = Small::new();
+    let told = "relaxed_ik_load: must-fail edits that change its answers: 0";
+    let (good, said) = small.check();
+    assert!(good && said.contains(told), "{said}");
+    let path = "crates/ground/must-fail/minus.edit";
+    small.change(path, "calls: load", "calls: load relaxed_ik_load");
+    small.fails("docs/CALLS.md: out of date", true);
+    small.change(path, "calls: load", "calls: lod");
+    small.fails("minus.edit: there is no public call lod", false);
+    small.change(path, "calls: lod", "calls: load");
+    small.change(path, "x + x", "x + y");
+    small.fails("'    x + y' is not in crates/ground/src/lib.rt", false);
 }
 
 #[test]
