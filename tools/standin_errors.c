@@ -120,7 +120,7 @@ typedef struct {
     const char *name, *range, *kind;
     double (*error)(double, double);
     void (*next)(Found *);
-    double low, high;   /* of the first argument, in size */
+    double low, high;   /* the first argument's range */
     int two;            /* arguments */
     double notable[8];
 } Search;
@@ -128,7 +128,7 @@ typedef struct {
 static const double PI = 3.141592653589793;
 
 static int inside(const Search *s, double a) {
-    return fabs(a) >= s->low && fabs(a) <= s->high;
+    return a >= s->low && a <= s->high;
 }
 
 /* Keeps f among the worst, which stand in falling order. */
@@ -143,27 +143,29 @@ static void keep(Found *worst, Found f) {
     worst[i] = f;
 }
 
+static uint64_t tried;
+
 static void look(const Search *s, Found *worst, double a, double b) {
     if (!inside(s, a) || (s->two && !(b >= 0 && b < INFINITY)))
         return;
     Found f = {s->error(a, b), a, b};
     keep(worst, f);
+    tried++;
 }
 
 /* The floats next to an argument; of two arguments the one and the other is moved. */
-static uint64_t around(const Search *s, Found *worst, double a, double b) {
+static void around(const Search *s, Found *worst, double a, double b) {
     for (int64_t k = -NEIGHBOURS; k <= NEIGHBOURS; k++) {
         look(s, worst, moved(a, k), b);
         if (s->two && b > 0)
             look(s, worst, a, moved(b, k));
     }
-    return (uint64_t)(2 * NEIGHBOURS + 1) * (s->two && b > 0 ? 2 : 1);
 }
 
 static void search(const Search *s, uint64_t count) {
     Found worst[KEPT], first[KEPT];
-    uint64_t tried = count;
     memset(worst, 0, sizeof worst);
+    tried = 0;
     for (uint64_t i = 0; i < count; i++) {
         Found f;
         s->next(&f);
@@ -174,9 +176,11 @@ static void search(const Search *s, uint64_t count) {
     }
     memcpy(first, worst, sizeof first);
     for (int i = 0; i < KEPT && first[i].error > 0; i++)
-        tried += around(s, worst, first[i].a, first[i].b);
-    for (int i = 0; i < 8 && s->notable[i] != 0; i++)
-        tried += around(s, worst, s->notable[i], 1) + (s->two ? 0 : around(s, worst, -s->notable[i], 1));
+        around(s, worst, first[i].a, first[i].b);
+    for (int i = 0; i < 8 && s->notable[i] != 0; i++) {
+        around(s, worst, s->notable[i], 1);
+        around(s, worst, -s->notable[i], 1);
+    }
     fprintf(stderr, "\n");
     printf("| %s | %s | %llu | %s | %.2e | %.17g", s->name, s->range, (unsigned long long)tried, s->kind, worst[0].error, worst[0].a);
     if (s->two)
@@ -190,13 +194,13 @@ static void search(const Search *s, uint64_t count) {
 
 int main(int count, char **words) {
     const Search searches[] = {
-        {"sine", "up to 4.0000005", "absolute", sine_error, up_to_4, 0, 4.0000005, 0, {4, 4.0000005, PI, PI / 2, 1, 0}},
-        {"sine", "up to 8", "absolute", sine_error, up_to_8, 0, 8, 0, {8, 2 * PI, 0}},
-        {"sine", "up to 12", "absolute", sine_error, up_to_12, 0, 12, 0, {12, 3 * PI, 0}},
-        {"cosine", "up to 4.0000005", "absolute", cosine_error, up_to_4, 0, 4.0000005, 0, {4, 4.0000005, PI, PI / 2, 1, 0}},
-        {"cosine", "up to 8", "absolute", cosine_error, up_to_8, 0, 8, 0, {8, 2 * PI, 0}},
-        {"cosine", "up to 12", "absolute", cosine_error, up_to_12, 0, 12, 0, {12, 3 * PI, 0}},
-        {"exponential", "-700 to 0", "relative", exp_error, exponent, 0, 700, 0, {-700, -512, -1, -0.5, -0x1p-10, 0}},
+        {"sine", "up to 4.0000005", "absolute", sine_error, up_to_4, -4.0000005, 4.0000005, 0, {4, 4.0000005, PI, PI / 2, 1, 0}},
+        {"sine", "up to 8", "absolute", sine_error, up_to_8, -8, 8, 0, {8, 2 * PI, 0}},
+        {"sine", "up to 12", "absolute", sine_error, up_to_12, -12, 12, 0, {12, 3 * PI, 0}},
+        {"cosine", "up to 4.0000005", "absolute", cosine_error, up_to_4, -4.0000005, 4.0000005, 0, {4, 4.0000005, PI, PI / 2, 1, 0}},
+        {"cosine", "up to 8", "absolute", cosine_error, up_to_8, -8, 8, 0, {8, 2 * PI, 0}},
+        {"cosine", "up to 12", "absolute", cosine_error, up_to_12, -12, 12, 0, {12, 3 * PI, 0}},
+        {"exponential", "-700 to 0", "relative", exp_error, exponent, -700, 0, 0, {-700, -512, -1, -0.5, -0x1p-10, 0}},
         {"atan2", "unit quaternions", "relative", atan2_error, quaternion, 0x1p-1000, 2, 1, {1, 0}},
         {"atan2", "any n > 0, w >= 0", "relative", atan2_error, pair, 0x1p-1000, 0x1p100, 1, {1, 0x1p-30, 0x1p30, 0.41421356237309503, 2.414213562373095, 0}},
     };
