@@ -3,25 +3,10 @@
 
 #![forbid(unsafe_code)]
 
-mod calls;
-mod counts;
-mod edits;
-mod files;
-mod header;
-mod layers;
-mod layout;
-mod links;
-mod numbers;
-mod picture;
-mod repository;
-mod scope;
-mod source;
-mod specs;
-mod words;
-
-use calls::{Calls, Sources};
-use counts::Counts;
-use repository::Repository;
+use pages::calls::{self, Calls, Sources};
+use pages::counts::Counts;
+use pages::repository::Repository;
+use pages::{edits, files, header, links, numbers, picture};
 use std::path::Path;
 use std::process::ExitCode;
 use std::{env, fs};

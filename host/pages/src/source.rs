@@ -2,7 +2,7 @@
 
 use crate::scope::{self, Names};
 use crate::specs::{self, Imports, Place};
-use crate::words;
+use crate::words::{self, Word};
 use std::collections::BTreeMap;
 use std::ops::Range;
 
@@ -15,6 +15,7 @@ pub struct Clause {
     pub line: usize,
     /// The names that it refers to, but for parameters.
     pub uses: Names,
+    pub text: Vec<Word>,
 }
 
 #[derive(Clone, Copy, Debug, PartialEq)]
@@ -34,6 +35,8 @@ pub struct Item {
     pub clauses: Vec<Clause>,
     /// The types that a signature, a field or a case names.
     pub types: Names,
+    /// Its text without comments; a function's up to its contract.
+    pub text: String,
 }
 
 #[derive(Debug)]
@@ -127,11 +130,13 @@ fn clause(text: &str, head: &Range<usize>, body: &Range<usize>, bound: &Names) -
     let named: Vec<&str> = words.skip_while(|word| !CLAUSES.contains(word)).collect();
     let kind = text[head.clone()].find(named.first()?)?;
     let inside = text[body.clone()].trim_matches(['{', '}']);
+    let inside = words::words(inside);
     Some(Clause {
         name: named.last()?.to_string(),
         asks: named.first() == Some(&"requires"),
         line: line_of(text, head.start + kind),
-        uses: scope::free(&words::words(inside), bound),
+        uses: scope::free(&inside, bound),
+        text: inside,
     })
 }
 
@@ -152,6 +157,15 @@ fn function(text: &str, open: usize, item: &mut Item) -> usize {
         item.clauses.push(clause);
         at = end;
     }
+}
+
+/// A function's text up to its contract or body.
+fn signature(text: &str) -> &str {
+    let clauses = CLAUSES
+        .iter()
+        .filter_map(|word| text.find(&format!(" {word} ")));
+    let ends = text.find('{').into_iter().chain(clauses);
+    text[..ends.min().unwrap_or(text.len())].trim()
 }
 
 /// What a line declares: the word for it, the name, and whether others see it.
@@ -179,6 +193,7 @@ fn item(text: &str, bare: &str, at: usize, line: &str) -> Option<(Item, usize)> 
         about: about(text, first),
         clauses: Vec::new(),
         types: Names::new(),
+        text: String::new(),
     };
     let end = match word {
         "fn" => {
@@ -197,6 +212,11 @@ fn item(text: &str, bare: &str, at: usize, line: &str) -> Option<(Item, usize)> 
         }
         _ => return None,
     };
+    item.text = match item.kind {
+        Kind::Function { .. } => signature(&bare[at..end]),
+        _ => &bare[at..end],
+    }
+    .to_string();
     let lines = bare[at..end].lines().filter(|line| !line.trim().is_empty());
     item.place = Place {
         line: first,
