@@ -1,6 +1,6 @@
 // Sine, cosine, the exponential and the arc tangent: each a series worked out from its last term down, one rounding for each operation.
 ghost use mathlib.Core.Path.{_≡_};
-ghost use Rattle.standins.specs.Series.{bothSeriesOf, sineOf, cosineOf, expSeriesOf, squarings, expOf, halvedOf, arcSeriesOf, smallAngleOf, atan2Of};
+ghost use Rattle.standins.specs.Series.{sineOf, cosineOf, sineCosineOf, expSeriesOf, squarings, expOf, halvedOf, arcSeriesOf, smallAngleOf, atan2Of};
 
 // 2n·(2n+1), for n from 1
 const SINE_DIVISORS: [f64; 16] = [
@@ -42,16 +42,17 @@ const COSINE_DIVISORS: [f64; 16] = [
     992.0,
 ];
 
-// The series of the sine and of the cosine, of one square.
-pub struct BothSeries {
+// The sine and the cosine of one angle.
+pub struct SineCosine {
     pub sine: f64,
     pub cosine: f64,
 }
 
-// Both in one loop: the two chains of divisions do not wait for each other.
-pub fn both_series(q: f64) -> BothSeries
-    ensures { λ r. ⌜ r ≡ bothSeriesOf q ⌝ }
+// Good for |a| up to about 4. Both in one loop: the two chains of divisions do not wait for each other.
+pub fn sine_cosine(a: f64) -> SineCosine
+    ensures { λ r. ⌜ r ≡ sineCosineOf a ⌝ }
 {
+    let q = a * a;
     // Copied once: in the loop each read would copy its table.
     let sines = SINE_DIVISORS;
     let cosines = COSINE_DIVISORS;
@@ -63,21 +64,23 @@ pub fn both_series(q: f64) -> BothSeries
         c = 1.0 - c * q / cosines[n - 1];
         n -= 1;
     }
-    BothSeries { sine: s, cosine: c }
+    SineCosine {
+        sine: a * s,
+        cosine: c,
+    }
 }
 
-// Good for |a| up to about 4, as is the cosine.
 pub fn sin(a: f64) -> f64
     ensures { λ r. ⌜ r ≡ sineOf a ⌝ }
 {
-    let both = both_series(a * a);
-    a * both.sine
+    let both = sine_cosine(a);
+    both.sine
 }
 
 pub fn cos(a: f64) -> f64
     ensures { λ r. ⌜ r ≡ cosineOf a ⌝ }
 {
-    let both = both_series(a * a);
+    let both = sine_cosine(a);
     both.cosine
 }
 

@@ -1,15 +1,13 @@
--- `cos` meets its contract: its series is that of the square. Assumes nothing.
+-- `cos` meets its contract: it is one of the two that `sine_cosine` answers.
 use borrow.Author.Needs.{needs}
-use Rattle.standins.specs.Series.{cosineOf}
 use Rattle.standins.proofs.series.cos.Statement.{statement}
 use Rattle.standins.proofs.series.cos.Tie as tie
 
-both-series-requires : tie.Need-both-series-requires
-both-series-requires c κs = search needs
+sine-cosine-requires : tie.Need-sine-cosine-requires
+sine-cosine-requires c κs = search needs
 
 returns : tie.Need-returns
-unfolding cosineOf
-returns c = rw (c .both-series .ensures)
+returns c = rw (c .sine-cosine .ensures)
 
 pub cos-spec : {M : Type 1} → statement M
-cos-spec = tie.close (tie.spec both-series-requires returns)
+cos-spec = tie.close (tie.spec sine-cosine-requires returns)

@@ -1,15 +1,13 @@
--- `sin` meets its contract: its series is that of the square. Assumes nothing.
+-- `sin` meets its contract: it is one of the two that `sine_cosine` answers.
 use borrow.Author.Needs.{needs}
-use Rattle.standins.specs.Series.{sineOf}
 use Rattle.standins.proofs.series.sin.Statement.{statement}
 use Rattle.standins.proofs.series.sin.Tie as tie
 
-both-series-requires : tie.Need-both-series-requires
-both-series-requires c κs = search needs
+sine-cosine-requires : tie.Need-sine-cosine-requires
+sine-cosine-requires c κs = search needs
 
 returns : tie.Need-returns
-unfolding sineOf
-returns c = rw (c .before .both-series .ensures)
+returns c = rw (c .sine-cosine .ensures)
 
 pub sin-spec : {M : Type 1} → statement M
-sin-spec = tie.close (tie.spec both-series-requires returns)
+sin-spec = tie.close (tie.spec sine-cosine-requires returns)

@@ -1,19 +1,19 @@
--- `both_series` meets its contract: each series goes by the one law of a loop that counts down, and each table is its rule, entry after entry. Assumes nothing.
+-- `sine_cosine` meets its contract: each series goes by the one law of a loop that counts down, and each table is its rule, entry after entry.
 use mathlib.Core.Path.{_≡_, refl}
 use Prim.Native.Nat.{_≤_}
 use native.Mathlib.Omega.{arith}
 use lib.Ieee.{ofInt, ofBits}
-use Rattle.standins.specs.Series.{downFrom, termOf, seriesOf, sineDivisor, cosineDivisor, term-turn, down-done}
+use Rattle.standins.specs.Series.{downFrom, termOf, seriesOf, sineOf, cosineOf, sineDivisor, cosineDivisor, term-turn, down-done}
 use Rattle.standins.proofs.Table.{by-rule}
-use Rattle.standins.proofs.series.both_series.Statement.{statement}
-use Rattle.standins.proofs.series.both_series.Tie as tie
+use Rattle.standins.proofs.series.sine_cosine.Statement.{statement}
+use Rattle.standins.proofs.series.sine_cosine.Tie as tie
 
 abbrev Inv-loop : tie.InvT-loop
-Inv-loop q sines cosines s₀ c₀ n₀ s c n =
+Inv-loop a q sines cosines s₀ c₀ n₀ s c n =
     (n ≤ 16) × (downFrom (termOf sineDivisor q) n s ≡ seriesOf sineDivisor q) × (downFrom (termOf cosineDivisor q) n c ≡ seriesOf cosineDivisor q)
 
 abbrev μ-loop : tie.MeasureT-loop
-μ-loop q sines cosines s₀ c₀ n₀ s c n = n
+μ-loop a q sines cosines s₀ c₀ n₀ s c n = n
 
 loop-holds : tie.Need-loop-holds Inv-loop μ-loop
 unfolding seriesOf
@@ -53,14 +53,15 @@ loop-again c =
     )
 
 returns : tie.Need-returns Inv-loop μ-loop
+unfolding sineOf cosineOf
 returns c =
     let l = c .before .loop in
     let s : l .s ≡ seriesOf sineDivisor _ = down-done (termOf sineDivisor _) (l .n) _ _ (omega arith) (l .inv .1) in
     let k : l .c ≡ seriesOf cosineDivisor _ = down-done (termOf cosineDivisor _) (l .n) _ _ (omega arith) (l .inv .2) in
     rw (s, k)
 
-pub both-series-spec : {M : Type 1} → statement M
-both-series-spec =
+pub sine-cosine-spec : {M : Type 1} → statement M
+sine-cosine-spec =
     tie.close
     (tie.spec
     Inv-loop
