@@ -22,8 +22,8 @@ moved OLD NEW [--list]
 A definition is an unfoldable or abbreviated item, a data type or a record of specs/, or a type of src/. A promise is a clause of a
 function's contract, or its signature. A law is an item of specs/ that is no definition: its statement with the parameters of the modules
 around it; its proof is counted by itself. A proof of a function is a file below proofs/. Layout, comments, `use` lines and `pub` make no
-difference. What stands in another file or crate, or a definition or law under another name, with the same text, has moved and counts as
-stayed. A function under another name counts as removed and added.";
+difference. What stands in another file or crate, or differs in nothing but new names of definitions, laws and functions, has moved and
+counts as stayed.";
 
 const FATES: [(Fate, &str); 4] = [
     (Fate::Added, "added"),
@@ -143,7 +143,8 @@ fn line(one: &Told) -> String {
 
 fn run(old: &str, new: &str, list: bool) -> Result<String, String> {
     let (old, new) = (items::all(Path::new(old))?, items::all(Path::new(new))?);
-    let kinds = KINDS.map(|(kind, name)| (kind, name, pairs::told(&old, &new, kind)));
+    let names = pairs::names(&old, &new);
+    let kinds = KINDS.map(|(kind, name)| (kind, name, pairs::told(&old, &new, kind, &names)));
     let ledger = Ledger {
         kinds: kinds.into(),
     };
