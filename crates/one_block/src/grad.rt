@@ -235,7 +235,7 @@ fn again(
     let at = here.at;
     let joint = here.joint;
     let pose = floats::get(frames, 7 * link);
-    if codes[link] == 0 {
+    if !chain::has_joint_at(codes, link) {
         return Place { at, joint, pose };
     }
     let next = one_joint(
@@ -416,7 +416,7 @@ fn entries_again(sizes: &[u16], codes: &[u16], link: usize) -> usize
     requires { ⌜ (link < total (now sizes)) × (link < length (now codes)) × (length (now sizes) ≤ 4) ⌝ }
     ensures { λ r. ⌜ r ≡ againAt (now (sizes .entry)) (now (codes .entry)) link ⌝ }
 {
-    if codes[link] == 0 {
+    if !chain::has_joint_at(codes, link) {
         return 0;
     }
     chain::chain_end(sizes, link) - link

@@ -4,10 +4,10 @@ use sheet::chain;
 use spacetime::arm;
 use spacetime::floats;
 ghost use mathlib.Core.Path.{_≡_};
-ghost use mathlib.Core.List.{[], _∷_};
+ghost use mathlib.Core.List.{List, [], _∷_};
 ghost use Prim.Native.Nat.{_+_, _-_, _*_, _≤_, _<_};
 ghost use lib.ListN.{length, getD, set};
-ghost use lib.Ieee.{nan};
+ghost use lib.Ieee.{Float, nan};
 ghost use Rattle.lists.specs.Splice.{splice};
 ghost use Rattle.lists.specs.Runs.{runs};
 ghost use Rattle.sheet.specs.Chain.{jointOf};
@@ -155,10 +155,11 @@ pub fn walk_again(
     after.at
 }
 
-// Puts a joint's old value back.
+// Puts a joint's old value back: whatever the block was before the joint was raised, and however far, it is that block again.
 pub fn put_back(block: &mut [f64], joint: usize, old: f64)
     requires { ⌜ joint < length (now block) ⌝ }
-    ensures { λ _. ⌜ now (block .exit) ≡ set (now (block .entry)) joint old ⌝ }
+    ensures stored { λ _. ⌜ now (block .exit) ≡ set (now (block .entry)) joint old ⌝ }
+    ensures restored { λ _. ⌜ ((x : List Float) (h : Float) → now (block .entry) ≡ raisedBy h x joint → old ≡ getD x joint nan → now (block .exit) ≡ x) ⌝ }
 {
     block[joint] = old;
 }

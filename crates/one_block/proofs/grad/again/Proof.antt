@@ -1,9 +1,11 @@
 -- `again` meets its contract: a fixed link adds nothing, another what `one_joint` adds. Assumes nothing.
-use mathlib.Core.Path.{refl}
+use mathlib.Core.Path.{refl, sym, _∙_}
+use borrow.Author.Tests.{not-true, not-false}
 use Prim.Native.Nat.{_*_}
 use native.Mathlib.Omega.{arith}
 use denote.Ref.{now}
 use lib.ListN.{getD}
+use Rattle.sheet.specs.Code.{joint-there, joint-missing}
 use Rattle.sheet.specs.Chain.{joint-le, joints-fixed, joints-one}
 use Rattle.objective_master.specs.Losses.{Given, given}
 use Rattle.one_block.specs.Record.{jointEntry, linkEntry, poseEntry}
@@ -12,6 +14,7 @@ use Rattle.one_block.specs.Slope.{slopes-fixed}
 use borrow.Author.Needs.{needs}
 use Rattle.one_block.proofs.grad.again.Statement.{statement}
 use Rattle.one_block.proofs.grad.again.Tie as tie
+use Rattle.sheet.proofs.chain.has_joint_at.Reads as has-joint-at-reads
 
 mul-get : tie.Need-mul-get
 mul-get c = search needs
@@ -21,15 +24,8 @@ get-requires c κs =
     let s = c .before .before .before .before .before .before .before .before .before .before .before .before .before .before .before .before .before in
     omega (arith, s .pre .1 .0, s .pre .1 .1 .0 .inside, entries-over (now (s .args .sizes)) (now (s .args .codes)))
 
-mul-if1 : tie.Need-mul-if1
-mul-if1 c =
-    let s = c .before .before .before .before .before .before .before .before .before .before .before .before .before .before .before .before .before .before in
-    omega (arith, s .pre .1 .1 .0 .inside, s .pre .0 .sheet .links)
-
-shared-slice-read-if1 : tie.Need-shared-slice-read-if1
-shared-slice-read-if1 c =
-    let s = c .before .before .before .before .before .before .before .before .before .before .before .before .before .before .before .before .before .before .before in
-    omega (arith, s .pre .1 .1 .0 .inside)
+has-joint-at-requires : tie.Need-has-joint-at-requires
+has-joint-at-requires c κs = search needs
 
 same-length : tie.Need-same-length
 same-length c = search needs
@@ -44,7 +40,7 @@ returns c =
     let x = now (a .block) in
     let G : Given = given (now (a .sizes)) (now (a .codes)) (now (a .limits)) (now (a .goals)) (now (a .xopt)) (now (a .prev-state)) (now (a .prev-state2)) in
     let k = a .link in
-    let z = c .if1 .taken in (
+    let z = joint-missing (getD cs k 0) (sym (c .before .has-joint-at .ensures) ∙ not-true _ (c .if1 .taken)) in (
       turn-is ns cs gs x k (a .here) _ (now (a .frames)) (s .pre .1 .1 .0) (omega (arith, again-at-fixed ns cs k z)) (omega (arith, joints-fixed (getD cs k 0) z)) (c .before .before .get .ensures),
       (
         refl,
@@ -61,7 +57,7 @@ returns c =
 one-joint-requires : tie.Need-one-joint-requires
 one-joint-requires c κs =
     let s = c .before .before .before .before .before .before .before .before .before .before .before .before .before .before .before .before .before .before .before .before .before .before .before .before .before .before in
-    (s .pre .0, (s .pre .1 .0, (s .pre .1 .1 .0, (s .pre .1 .1 .1, c .before .before .before .before .before .before .if1 .left))))
+    (s .pre .0, (s .pre .1 .0, (s .pre .1 .1 .0, (s .pre .1 .1 .1, joint-there _ (sym (c .before .before .before .before .before .before .before .has-joint-at .ensures) ∙ not-false _ (c .before .before .before .before .before .before .if1 .left))))))
 
 add-t26 : tie.Need-add-t26
 add-t26 c =
@@ -97,7 +93,7 @@ returns-2 c =
     let G : Given = given (now (a .sizes)) (now (a .codes)) (now (a .limits)) (now (a .goals)) (now (a .xopt)) (now (a .prev-state)) (now (a .prev-state2)) in
     let k = a .link in
     let o = c .before .before .before .before .before .before .before .before .before .before .before .before .one-joint in
-    (turn-is ns cs gs x k (a .here) _ (now (a .frames)) (s .pre .1 .1 .0) (o .ensures .0) (omega (arith, joints-one (getD cs k 0) (c .before .before .before .before .before .before .before .before .before .before .before .before .before .before .before .before .before .before .before .if1 .left))) (c .before .before .before .before .before .before .before .before .before .before .before .before .before .before .before .before .before .before .before .before .before .get .ensures), o .ensures .1)
+    (turn-is ns cs gs x k (a .here) _ (now (a .frames)) (s .pre .1 .1 .0) (o .ensures .0) (omega (arith, joints-one (getD cs k 0) (joint-there (getD cs k 0) (sym (c .before .before .before .before .before .before .before .before .before .before .before .before .before .before .before .before .before .before .before .before .has-joint-at .ensures) ∙ not-false _ (c .before .before .before .before .before .before .before .before .before .before .before .before .before .before .before .before .before .before .before .if1 .left))))) (c .before .before .before .before .before .before .before .before .before .before .before .before .before .before .before .before .before .before .before .before .before .get .ensures), o .ensures .1)
 
 pub again-spec : {M : Type 1} → statement M
 again-spec =
@@ -105,8 +101,7 @@ again-spec =
     (tie.spec
     mul-get
     get-requires
-    mul-if1
-    shared-slice-read-if1
+    has-joint-at-requires
     same-length
     returns
     one-joint-requires

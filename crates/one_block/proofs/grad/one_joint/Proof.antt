@@ -14,7 +14,7 @@ use Rattle.objective_master.specs.Losses.{Given, given}
 use Rattle.gradient.specs.Slopes.{step}
 use Rattle.gradient.specs.Gradient.{raisedBy, gradientAt}
 use Rattle.gradient.specs.Ready.{ready-other}
-use Rattle.gradient.specs.Made.{raised-length, put-back}
+use Rattle.gradient.specs.Made.{raised-length}
 use Rattle.one_block.specs.Record.{copyOf, jointEntry, linkEntry, poseEntry}
 use Rattle.one_block.specs.Laws.{copy-joint, before-copy, joint-small, joint-in-block, Fits, fits, again-at-joint, again-joint, runs-poses}
 use Rattle.one_block.specs.Slope.{standing-at, slope-at, slopes-joint}
@@ -250,7 +250,7 @@ returns c =
     let number : j ≡ jointOf cs k = st .meets .number in (
       omega (arith, w .walk-again .ensures .0, ee, again-at-joint ns cs k turns),
       (
-        c .before .before .put-back .ensures ∙ ap (λ (b : List Float). set b j (r .raise .result)) (w .walk-again .ensures .1 .0 ∙ r .raise .ensures .1) ∙ ap (set (raisedBy step x j) j) (r .raise .ensures .0) ∙ put-back step x j,
+        c .before .before .put-back .ensures .1 x step (w .walk-again .ensures .1 .0 ∙ r .raise .ensures .1) (r .raise .ensures .0),
         (
           rw (again-joint ns cs k turns jointEntry, ← number, ← ee) (w .walk-again .ensures .1 .1 .0),
           (
