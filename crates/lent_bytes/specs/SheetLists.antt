@@ -56,11 +56,12 @@ pub record SheetHeld (s : SheetLists) (n : SheetCounts) (sizes codes : List ℕ)
   pub of-floats : Front (s .floats) floats (n .floats)
   pub of-limits : Front (s .limits) limits (n .limits)
 
--- goals, history and joints at the fronts of three
+-- goals, history and joints at the fronts of three, the last of which has room for any joints: a call may raise them in place
 pub record TaskHeld (g h x : List Float) (n : TaskCounts) (goals history joints : List Float) : Type 0 where
   pub of-goals : Front g goals (n .goals)
   pub of-history : Front h history (n .history)
   pub of-joints : Front x joints (n .joints)
+  pub room : length joints ≡ 16
 
 -- ---- laws: lists that are equal
 pub same-two : {A B C : Type 0} (f : A → B → C) {a a′ : A} {b b′ : B} → a ≡ a′ → b ≡ b′ → f a b ≡ f a′ b′
