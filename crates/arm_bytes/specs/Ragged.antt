@@ -17,31 +17,9 @@ use Rattle.refusals.specs.Lowest.{lowestFrom, lowest, firstOf, first-zero, firs
 use Rattle.refusals.specs.Refusal.{chainsOf, linksOf, badSizes, badLengths, badLimits, badFloats, badBlock, badGoals, chainJoints, shapeRefusal, loadRefusal, blockRefusal, goalsRefusal, roomRefusal}
 use Rattle.refusals.specs.Passed.{Sizes, Shape, sizes-passed, load-first, load-passed, shape-passed}
 use Rattle.calls.specs.Frames.{framesRefusal, poseRefusal, positionsNeed, rotationsNeed, endsNeed}
-use Rattle.lent_bytes.specs.Lent.{countIn, numbersIn, floatsIn, roomIn}
+use Rattle.lent_bytes.specs.Lent.{Misfit, numbersIn, floatsIn, roomIn, no-numbers, no-floats}
 use Rattle.lent_bytes.specs.SheetLists.{SheetLists, sheetWith}
 use Rattle.arm_bytes.specs.ArmCalls.{loadNumber, setGoalsNumber, framesNumber, poseNumber, updateNumber, resetNumber, manipulabilityNumber}
-
--- n bytes are no whole count of elements of w bytes, or more than cap of them
-abbrev pub Misfit : ℕ → ℕ → ℕ → Type 0
-Misfit w cap n = (n % w ≡ 0 → ⊥) ⊎ (cap < n / w)
-
--- such a list counts as empty
-none-counted : (w cap n : ℕ) → Misfit w cap n → countIn w cap n ≡ 0
-unfolding countIn
-none-counted w cap n m =
-    ⊎-elim (λ (h : n % w ≡ 0 → ⊥). rw (ne-eqb (n % w) 0 h)) (λ (l : cap < n / w). rw (lt-ltb cap (n / w) l) (either (eqb (n % w) 0))) m
-  where
-    either : (b : Bool) → _≡_ {A = ℕ} (cond b 0 0) 0
-    either true = refl
-    either false = refl
-
-no-numbers : (cap : ℕ) (b : List ℕ) → Misfit 2 cap (length b) → numbersIn cap b ≡ []
-unfolding numbersIn listed runs
-no-numbers cap b m = rw (none-counted 2 cap (length b) m)
-
-pub no-floats : (cap : ℕ) (b : List ℕ) → Misfit 8 cap (length b) → floatsIn cap b ≡ []
-unfolding floatsIn listed runs
-no-floats cap b m = rw (none-counted 8 cap (length b) m)
 
 -- ---- the sheet's lists
 pub ragged-sizes : (b codes : List ℕ) (floats limits : List Float) → Misfit 2 5 (length b) → loadNumber (sheetWith (numbersIn 5 b) codes floats limits) ≡ 1

@@ -9,10 +9,10 @@ use lib.ListN.{length}
 use Rattle.sheet.specs.Chain.{joints}
 use Rattle.refusals.specs.Lowest.{first-zero, first-some}
 use Rattle.refusals.specs.Refusal.{chainsOf, blockRefusal}
-use Rattle.lent_bytes.specs.Lent.{floatsIn, roomIn}
+use Rattle.lent_bytes.specs.Lent.{Misfit, floatsIn, roomIn, no-floats}
 use Rattle.lent_bytes.specs.SheetLists.{SheetLists}
 use Rattle.arm_bytes.specs.ArmCalls.{loadNumber}
-use Rattle.arm_bytes.specs.Ragged.{Misfit, no-floats, no-block, no-goals, after, ragged-output, second-output, shape, moving}
+use Rattle.arm_bytes.specs.Ragged.{no-block, no-goals, after, ragged-output, second-output, shape, moving}
 use Rattle.objective_bytes.specs.ObjectiveCalls.{aimedNumber, objectiveNumber, slopesNumber}
 
 -- a call that is refused with one of 1 to 8

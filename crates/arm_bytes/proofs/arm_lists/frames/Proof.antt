@@ -1,4 +1,4 @@
--- `frames` meets its contract: a refusal writes nothing; else the outputs are the bytes of the walk's lists. Assumes nothing.
+-- `frames` meets its contract: a refusal writes nothing; else the outputs are the bytes of the walk's lists.
 use mathlib.Core.Path.{_≡_, refl, sym, ap, _∙_, subst}
 use mathlib.Core.List.{List}
 use Prim.Native.Nat.{ℕ, _+_, _*_}

@@ -1,4 +1,4 @@
--- `manipulability` meets its contract: a refusal writes nothing; else the output is the value's bytes. Assumes nothing.
+-- `manipulability` meets its contract: a refusal writes nothing; else the output is the value's bytes.
 use mathlib.Core.Path.{_≡_, refl, sym, ap, _∙_, subst}
 use mathlib.Core.List.{List, [], _∷_}
 use Prim.Native.Nat.{ℕ}

@@ -1,4 +1,4 @@
--- `pose` meets its contract: a refusal writes nothing; else the output is the bytes of the end poses. Assumes nothing.
+-- `pose` meets its contract: a refusal writes nothing; else the output is the bytes of the end poses.
 use mathlib.Core.Path.{_≡_, refl, sym, ap, _∙_, subst}
 use mathlib.Core.List.{List}
 use Prim.Native.Nat.{ℕ, _*_}

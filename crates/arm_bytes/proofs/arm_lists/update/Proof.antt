@@ -1,4 +1,4 @@
--- `update` meets its contract: a refusal writes nothing; else the output is the bytes of the new block and of the first three. Assumes nothing.
+-- `update` meets its contract: a refusal writes nothing; else the output is the bytes of the new block and of the first three.
 use mathlib.Core.Path.{_≡_, refl, sym, ap, _∙_}
 use mathlib.Core.List.{List, _++_}
 use Prim.Native.Nat.{ℕ, _*_, _≤_}

@@ -1,4 +1,4 @@
--- `aimed_number` meets its contract: the number of loading, then 7, then 8. Assumes nothing.
+-- `aimed_number` meets its contract: the number of loading, then 7, then 8.
 use mathlib.Core.Path.{_≡_, sym, ap, _∙_}
 use Prim.Native.Nat.{ℕ, _*_}
 use native.Mathlib.Omega.{arith}

@@ -1,4 +1,4 @@
--- `slopes_number` meets its contract: 1 to 8, then 9 for each output. Assumes nothing.
+-- `slopes_number` meets its contract: 1 to 8, then 9 for each output.
 use mathlib.Core.Path.{ap, _∙_}
 use denote.Ref.{now}
 use Rattle.sheet.specs.Chain.{joint-last}

@@ -1,4 +1,4 @@
--- `one_block_number` meets its contract: 1 to 8, then 9 for each output. Assumes nothing.
+-- `one_block_number` meets its contract: 1 to 8, then 9 for each output.
 use mathlib.Core.Path.{_≡_, sym, ap, _∙_}
 use native.Mathlib.Omega.{arith}
 use denote.Ref.{now}
