@@ -6,7 +6,7 @@ use denote.Ref.{RefT, now}
 use lib.Ieee.{Float}
 use lib.ListN.{length}
 use Rattle.lists.specs.Splice.{splice}
-use Rattle.sheet.specs.Chain.{joints}
+use Rattle.refusals.specs.Lengths.{slopesLength, valueLength}
 use Rattle.refusals.specs.Lowest.{firstOf}
 use Rattle.refusals.specs.Refusal.{linksOf, roomRefusal}
 use Rattle.one_block.specs.Record.{entriesOf, recordJoints, recordLinks, recordPoses}
@@ -25,7 +25,7 @@ entriesIn s = entriesOf (linksOf (s .sizes)) (s .codes)
 unfoldable pub oneBlockNumber : SheetLists → List Float → List Float → List Float → ℕ → ℕ → ℕ → ℕ → ℕ → ℕ
 oneBlockNumber s goals history x value slopes rj rl rp =
     firstOf (aimedNumber s goals history x)
-    (firstOf (roomRefusal 1 value) (firstOf (roomRefusal (joints (s .codes)) slopes) (recordRefusal (entriesIn s) rj rl rp)))
+    (firstOf (roomRefusal valueLength value) (firstOf (roomRefusal (slopesLength (s .codes)) slopes) (recordRefusal (entriesIn s) rj rl rp)))
 
 -- the record's three lists
 unfoldable pub jointsIn : SheetLists → List ℕ

@@ -4,9 +4,9 @@ use objective_bytes::objective_lists;
 use objective_master::weights;
 use one_block::grad;
 use one_block_calls::slopes as room;
+use refusals::lengths;
 use refusals::lent;
 use refusals::shape;
-use sheet::chain;
 ghost use mathlib.Core.Path.{_≡_};
 ghost use mathlib.Core.List.{[], _∷_};
 ghost use Prim.Native.Nat.{_*_, _≤_};
@@ -48,7 +48,7 @@ fn one_block_number(
     if aimed != 0 {
         return aimed;
     }
-    let n = chain::joint_number(codes, codes.len());
+    let n = lengths::block_length(codes);
     let first = lent::room_refusal(1, bytes_lent::room(value));
     let second = lent::room_refusal(n, bytes_lent::room(slopes));
     let third = room::record_refusal(
