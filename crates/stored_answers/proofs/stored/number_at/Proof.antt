@@ -1,10 +1,10 @@
 -- `number_at` meets its contract: each return follows the test of the length. Assumes nothing.
 use native.Mathlib.Omega.{arith}
 use borrow.Author.Tests.{lt-ltb, le-ltb}
-use Rattle.replay.specs.Stored.{numberAt}
+use Rattle.stored_answers.specs.Stored.{numberAt}
 use borrow.Author.Needs.{needs}
-use Rattle.replay.proofs.stored.number_at.Statement.{statement}
-use Rattle.replay.proofs.stored.number_at.Tie as tie
+use Rattle.stored_answers.proofs.stored.number_at.Statement.{statement}
+use Rattle.stored_answers.proofs.stored.number_at.Tie as tie
 
 add-if1 : tie.Need-add-if1
 add-if1 c = search needs

@@ -1,10 +1,10 @@
 -- `none` meets its contract: by what its call ensures. Assumes nothing.
-use Rattle.replay.specs.Agree.{agrees-none}
+use Rattle.stored_answers.specs.Agree.{agrees-none}
 use mathlib.Core.Path.{sym, ap, _∙_}
 use lib.Dec.{eqb}
 use borrow.Author.Needs.{needs}
-use Rattle.replay.proofs.agree.none.Statement.{statement}
-use Rattle.replay.proofs.agree.none.Tie as tie
+use Rattle.stored_answers.proofs.agree.none.Statement.{statement}
+use Rattle.stored_answers.proofs.agree.none.Tie as tie
 
 add-number-at : tie.Need-add-number-at
 add-number-at c = search needs

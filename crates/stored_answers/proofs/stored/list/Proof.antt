@@ -1,8 +1,8 @@
 -- `list` meets its contract: by what its calls ensure. Assumes nothing.
-use Rattle.replay.specs.Stored.{listOf}
+use Rattle.stored_answers.specs.Stored.{listOf}
 use borrow.Author.Needs.{needs}
-use Rattle.replay.proofs.stored.list.Statement.{statement}
-use Rattle.replay.proofs.stored.list.Tie as tie
+use Rattle.stored_answers.proofs.stored.list.Statement.{statement}
+use Rattle.stored_answers.proofs.stored.list.Tie as tie
 
 place-requires : tie.Need-place-requires
 place-requires c κs = search needs

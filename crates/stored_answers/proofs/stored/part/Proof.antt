@@ -5,10 +5,10 @@ use native.Mathlib.Omega.{arith}
 use borrow.Author.Tests.{lt-ltb, le-ltb}
 use lib.ListN.{drop, length-drop}
 use lib.Seq.{length-take-le}
-use Rattle.replay.specs.Stored.{partOf}
+use Rattle.stored_answers.specs.Stored.{partOf}
 use borrow.Author.Needs.{needs}
-use Rattle.replay.proofs.stored.part.Statement.{statement}
-use Rattle.replay.proofs.stored.part.Tie as tie
+use Rattle.stored_answers.proofs.stored.part.Statement.{statement}
+use Rattle.stored_answers.proofs.stored.part.Tie as tie
 
 add-to : tie.Need-add-to
 add-to c = search needs

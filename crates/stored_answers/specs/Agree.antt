@@ -1,6 +1,6 @@
 -- When an answer agrees with the stored one: the number is the same, and so is every output, byte for byte. The stored list has one pattern for every NaN, and so
 -- has what the proved code writes: a NaN matches a NaN.
-use mathlib.Core.Path.{_≡_, refl, ap, _∙_}
+use mathlib.Core.Path.{_≡_, refl, sym, ap, _∙_}
 use mathlib.Core.Bool.{Bool, true, false, cond, false≢true}
 use mathlib.Core.List.{List, [], _∷_, _++_}
 use Prim.Native.Nat.{ℕ, zero, suc, _+_, _≤_}
@@ -11,7 +11,7 @@ use borrow.Author.Tests.{eq-eqb, eqb-true}
 use Rattle.lists.specs.Splice.{splice}
 use Rattle.calls.specs.Arms.{ifTaken}
 use Rattle.lent_bytes.specs.SheetLists.{same-two, same-three}
-use Rattle.replay.specs.Stored.{numberAt, listOf}
+use Rattle.stored_answers.specs.Stored.{numberAt, listOf}
 
 unfoldable pub sameBytes : List ℕ → List ℕ → Bool
 sameBytes [] [] = true
@@ -44,14 +44,14 @@ fill-length : (n : ℕ) → length (fill n) ≡ n
 unfolding fill
 fill-length n = length-replicate n 165
 
-fill-front : (n m : ℕ) → n ≤ m → take n (fill m) ≡ fill n
-unfolding fill
-fill-front zero m h = refl
-fill-front (suc n) zero h = absurd (omega arith)
-fill-front (suc n) (suc m) h = ap (λ (l : List ℕ). 165 ∷ l) (fill-front n m (omega arith))
+pub same-front : {A : Type 0} (x : A) (n m : ℕ) → n ≤ m → take n (replicate m x) ≡ replicate n x
+same-front x zero m h = refl
+same-front x (suc n) zero h = absurd (omega arith)
+same-front {A} x (suc n) (suc m) h = ap (λ (l : List A). x ∷ l) (same-front x n m (omega arith))
 
 pub front-filled : {a : List ℕ} (stored : List ℕ) (n m : ℕ) → a ≡ fill m → n ≡ length stored → n ≤ m → take n a ≡ filled stored
-front-filled stored n m e l h = ap (take n) e ∙ fill-front n m h ∙ ap fill l
+unfolding fill
+front-filled stored n m e l h = ap (take n) e ∙ same-front 165 n m h ∙ ap fill l
 
 pub filled-length : {p : List ℕ} (stored : List ℕ) → p ≡ filled stored → length p ≡ length stored
 filled-length stored e = ap length e ∙ fill-length (length stored)
@@ -111,7 +111,7 @@ outputs-more s at k (x ∷ os) o =
     ∙ inner (sameBytes x (listOf s at k)) (outputsAgree s at (k + 1) os) (sameBytes o (listOf s at (k + 1 + length os)))
     ∙ ap (λ (n : ℕ). cond (cond (sameBytes x (listOf s at k)) (outputsAgree s at (k + 1) os) false) (sameBytes o (listOf s at n)) false) z
 
-agrees-more : (s : List ℕ) (at r k : ℕ) (os : List (List ℕ)) (o : List ℕ)
+pub agrees-more : (s : List ℕ) (at r k : ℕ) (os : List (List ℕ)) (o : List ℕ)
     → answerAgrees s at r k (os ++ (o ∷ [])) ≡ cond (answerAgrees s at r k os) (sameBytes o (listOf s at (k + length os))) false
 unfolding answerAgrees
 agrees-more s at r k os o =
@@ -128,3 +128,12 @@ module _ (s : List ℕ) (at r k : ℕ) (os : List (List ℕ)) (o : List ℕ) whe
 pub agrees-none : (s : List ℕ) (at r k : ℕ) → answerAgrees s at r k [] ≡ eqb r (numberAt s (at + 2))
 unfolding answerAgrees outputsAgree
 agrees-none s at r k = itself (eqb r (numberAt s (at + 2)))
+
+-- an answer of number r, compared output by output: b is what is known of the outputs os, and o is the next one
+pub agrees-begin : (s : List ℕ) (at k : ℕ) {b : Bool} {r r′ : ℕ} → b ≡ answerAgrees s at r 0 [] → r ≡ r′ → b ≡ answerAgrees s at r′ k []
+agrees-begin s at k {r = r} {r′ = r′} e q = e ∙ agrees-none s at r 0 ∙ sym (agrees-none s at r k) ∙ ap (λ (n : ℕ). answerAgrees s at n k []) q
+
+pub agrees-on : (s : List ℕ) (at r k : ℕ) (os : List (List ℕ)) {b t : Bool} {o o′ : List ℕ}
+    → b ≡ answerAgrees s at r k os → o ≡ o′ → t ≡ cond b (sameBytes o (listOf s at (k + length os))) false → t ≡ answerAgrees s at r k (os ++ (o′ ∷ []))
+agrees-on s at r k os {o′ = o′} e q h =
+    h ∙ same-two (λ b o. cond b (sameBytes o (listOf s at (k + length os))) false) e q ∙ sym (agrees-more s at r k os o′)

@@ -3,7 +3,7 @@ use lent_bytes::bytes;
 ghost use mathlib.Core.Path.{_≡_};
 ghost use Prim.Native.Nat.{_+_, _*_, _≤_, _<_, _^_};
 ghost use lib.ListN.{length};
-ghost use Rattle.replay.specs.Stored.{numberAt, partOf, placeOf, listOf};
+ghost use Rattle.stored_answers.specs.Stored.{numberAt, partOf, placeOf, listOf};
 
 // The u16 at a place, 0 where the list ends before it.
 pub fn number_at(s: &[u8], at: usize) -> usize

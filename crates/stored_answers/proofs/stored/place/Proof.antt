@@ -3,9 +3,9 @@ use mathlib.Core.Path.{_≡_, refl}
 use Prim.Native.Nat.{_+_, _*_, _-_, _≤_}
 use native.Mathlib.Omega.{arith}
 use native.Mathlib.Numerals.{add-one}
-use Rattle.replay.specs.Stored.{placeOf}
-use Rattle.replay.proofs.stored.place.Statement.{statement}
-use Rattle.replay.proofs.stored.place.Tie as tie
+use Rattle.stored_answers.specs.Stored.{placeOf}
+use Rattle.stored_answers.proofs.stored.place.Statement.{statement}
+use Rattle.stored_answers.proofs.stored.place.Tie as tie
 
 abbrev Inv-loop : tie.InvT-loop
 Inv-loop s at k p₀ i₀ p i = (i ≤ k) × (p ≡ placeOf s at i) × (p ≤ at + 4 + 65537 * i)

@@ -7,9 +7,9 @@ use borrow.Author.Count.{below-none, below-more}
 use borrow.Author.Needs.{needs}
 use lib.ListN.{length, getD}
 use lib.Seq.{ext-getD}
-use Rattle.replay.specs.Agree.{same-refl, same-false}
-use Rattle.replay.proofs.agree.same.Statement.{statement}
-use Rattle.replay.proofs.agree.same.Tie as tie
+use Rattle.stored_answers.specs.Agree.{same-refl, same-false}
+use Rattle.stored_answers.proofs.agree.same.Statement.{statement}
+use Rattle.stored_answers.proofs.agree.same.Tie as tie
 
 abbrev Inv-loop : tie.InvT-loop
 Inv-loop a b i₀ i = (length a ≡ length b) × (i ≤ length a) × ((k : ℕ) → k < i → getD a k 0 ≡ getD b k 0)
