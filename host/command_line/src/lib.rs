@@ -1,5 +1,5 @@
-//! The command line `PLACE [--check]` of a program that writes stored files, or
-//! says whether they are as it would write them.
+//! The command line of a program that writes stored files, or says whether they
+//! are as it would write them.
 
 #![forbid(unsafe_code)]
 
@@ -18,21 +18,35 @@ pub fn write_or_check(
     write: impl FnOnce(&Path) -> Done,
     check: impl FnOnce(&Path) -> Done,
 ) -> ExitCode {
-    let arguments: Vec<String> = env::args().skip(1).collect();
-    let words: Vec<&str> = arguments.iter().map(String::as_str).collect();
-    let done = match asked(&words) {
-        Some((place, false)) => write(place),
-        Some((place, true)) => check(place),
+    let words = words();
+    let words: Vec<&str> = words.iter().map(String::as_str).collect();
+    finish(
+        usage,
+        asked(&words).map(|(place, held)| if held { check(place) } else { write(place) }),
+    )
+}
+
+/// The words behind the program's name.
+pub fn words() -> Vec<String> {
+    env::args().skip(1).collect()
+}
+
+/// Prints the last line; nothing done means that the words ask for nothing, and
+/// the usage is printed.
+pub fn finish(usage: &str, done: Option<Done>) -> ExitCode {
+    match done {
+        Some(Ok(line)) => {
+            println!("{line}");
+            ExitCode::SUCCESS
+        }
+        Some(Err(line)) => {
+            println!("{line}");
+            ExitCode::FAILURE
+        }
         None => {
             eprintln!("{usage}");
-            return ExitCode::from(2);
+            ExitCode::from(2)
         }
-    };
-    let (Ok(line) | Err(line)) = &done;
-    println!("{line}");
-    match done {
-        Ok(_) => ExitCode::SUCCESS,
-        Err(_) => ExitCode::FAILURE,
     }
 }
 

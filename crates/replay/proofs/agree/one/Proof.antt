@@ -2,7 +2,7 @@
 use mathlib.Core.Path.{_≡_, sym, ap, _∙_}
 use mathlib.Core.List.{[]}
 use borrow.Author.Tests.{not-true, not-false}
-use Rattle.replay.specs.Agree.{sameBytes, agrees-none, agrees-not, agrees-next}
+use Rattle.stored_answers.specs.Agree.{sameBytes, agrees-none, agrees-not, agrees-next}
 use Prim.Native.Nat.{_+_}
 use native.Mathlib.Omega.{arith}
 use borrow.Author.Needs.{needs}
