@@ -123,8 +123,6 @@ fn hold_edits(edits: &[edits::Edit], stray: Vec<String>, report: &mut Report) {
 
 /// Edits that change a call's answers, at least.
 const EDITS_A_CALL: usize = 2;
-/// Whether a call with fewer is a fault. Until every call has them it is told and is none.
-const EDITS_REQUIRED: bool = false;
 
 /// An edit names public calls alone, and each call has edits that change its answers.
 fn hold_edited(calls: &Calls, edits: &[edits::Edit], report: &mut Report) {
@@ -137,11 +135,9 @@ fn hold_edited(calls: &Calls, edits: &[edits::Edit], report: &mut Report) {
     }
     for call in calls.all() {
         let (name, count) = (call.name(), call.edits.len());
-        let told = || format!("{name}: must-fail edits that change its answers: {count}");
-        match count < EDITS_A_CALL {
-            true if !EDITS_REQUIRED => println!("{}", told()),
-            few => report.hold(!few, told),
-        }
+        report.hold(count >= EDITS_A_CALL, || {
+            format!("{name}: must-fail edits that change its answers: {count}")
+        });
     }
 }
 
