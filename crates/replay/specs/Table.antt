@@ -8,56 +8,56 @@ abbrev pub sizesList : ℕ
 sizesList = 0
 
 abbrev pub codesList : ℕ
-codesList = 1
+codesList = sizesList + 1
 
 abbrev pub floatsList : ℕ
-floatsList = 2
+floatsList = codesList + 1
 
 abbrev pub limitsList : ℕ
-limitsList = 3
+limitsList = floatsList + 1
 
 -- set_goals and the calls on the objective
 abbrev pub goalsList : ℕ
-goalsList = 4
+goalsList = limitsList + 1
 
 -- the calls on the objective
 abbrev pub historyList : ℕ
-historyList = 5
+historyList = goalsList + 1
 
 abbrev pub jointsList : ℕ
-jointsList = 6
+jointsList = historyList + 1
 
 abbrev pub objectiveOutputs : ℕ
-objectiveOutputs = 7
+objectiveOutputs = jointsList + 1
 
 -- update
 abbrev pub updateHistory : ℕ
-updateHistory = 4
+updateHistory = limitsList + 1
 
 abbrev pub updateJoints : ℕ
-updateJoints = 5
+updateJoints = updateHistory + 1
 
 abbrev pub updateOutput : ℕ
-updateOutput = 6
+updateOutput = updateJoints + 1
 
 -- pose, manipulability, frames, reset
 abbrev pub armJoints : ℕ
-armJoints = 4
+armJoints = limitsList + 1
 
 abbrev pub armOutputs : ℕ
-armOutputs = 5
+armOutputs = armJoints + 1
 
 -- a leaf: the floats asked, the floats answered
 abbrev pub askedList : ℕ
 askedList = 0
 
 abbrev pub answeredList : ℕ
-answeredList = 1
+answeredList = askedList + 1
 
 -- the first output of call c: load, set_goals, then those above
 unfoldable pub outputsFrom : ℕ → ℕ
 outputsFrom c =
-    cond (eqb c 0) 4 (cond (eqb c 1) 5 (cond (eqb c 2) armOutputs (cond (eqb c 3) armOutputs (cond (eqb c 4) updateOutput (cond (eqb c 5) objectiveOutputs
+    cond (eqb c 0) (limitsList + 1) (cond (eqb c 1) (goalsList + 1) (cond (eqb c 2) armOutputs (cond (eqb c 3) armOutputs (cond (eqb c 4) updateOutput (cond (eqb c 5) objectiveOutputs
     (cond (eqb c 6) armOutputs (cond (eqb c 7) armOutputs (cond (eqb c 8) objectiveOutputs (cond (eqb c 9) objectiveOutputs (cond (eqb c 10) objectiveOutputs answeredList))))))))))
 
 -- and how many it has

@@ -6,19 +6,23 @@ ghost use Rattle.replay.specs.Table.{outputsFrom, outputsOf, listsOf};
 // every byte call: the sheet
 pub const SIZES: usize = 0;
 
-pub const CODES: usize = 1;
+pub const CODES: usize = SIZES + 1;
 
-pub const FLOATS: usize = 2;
+pub const FLOATS: usize = CODES + 1;
 
-pub const LIMITS: usize = 3;
+pub const LIMITS: usize = FLOATS + 1;
+
+pub const LOAD_END: usize = LIMITS + 1;
 // set_goals and the calls on the objective
-pub const GOALS: usize = 4;
+pub const GOALS: usize = LIMITS + 1;
+
+pub const GOALS_END: usize = GOALS + 1;
 // the calls on the objective
-pub const HISTORY: usize = 5;
+pub const HISTORY: usize = GOALS + 1;
 
-pub const JOINTS: usize = 6;
+pub const JOINTS: usize = HISTORY + 1;
 
-pub const OBJECTIVE_OUTPUTS: usize = 7;
+pub const OBJECTIVE_OUTPUTS: usize = JOINTS + 1;
 
 pub const OBJECTIVE_SECOND: usize = OBJECTIVE_OUTPUTS + 1;
 
@@ -28,29 +32,29 @@ pub const OBJECTIVE_FOURTH: usize = OBJECTIVE_OUTPUTS + 3;
 
 pub const OBJECTIVE_FIFTH: usize = OBJECTIVE_OUTPUTS + 4;
 // update
-pub const UPDATE_HISTORY: usize = 4;
+pub const UPDATE_HISTORY: usize = LIMITS + 1;
 
-pub const UPDATE_JOINTS: usize = 5;
+pub const UPDATE_JOINTS: usize = UPDATE_HISTORY + 1;
 
-pub const UPDATE_OUTPUT: usize = 6;
+pub const UPDATE_OUTPUT: usize = UPDATE_JOINTS + 1;
 // pose, manipulability, frames, reset
-pub const ARM_JOINTS: usize = 4;
+pub const ARM_JOINTS: usize = LIMITS + 1;
 
-pub const ARM_OUTPUTS: usize = 5;
+pub const ARM_OUTPUTS: usize = ARM_JOINTS + 1;
 
 pub const ARM_SECOND: usize = ARM_OUTPUTS + 1;
 // a leaf
 pub const ASKED: usize = 0;
 
-pub const ANSWERED: usize = 1;
+pub const ANSWERED: usize = ASKED + 1;
 
 // The first output of a call.
 pub fn outputs_from(call: usize) -> usize
     ensures { λ r. ⌜ (r ≡ outputsFrom call) × (r ≤ 7) ⌝ }
 {
     match call {
-        0 => return 4,
-        1 => return 5,
+        0 => return LOAD_END,
+        1 => return GOALS_END,
         2 => return ARM_OUTPUTS,
         3 => return ARM_OUTPUTS,
         4 => return UPDATE_OUTPUT,

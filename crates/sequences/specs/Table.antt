@@ -1,6 +1,6 @@
 -- Which list of a record is which: the one table of list numbers.
 use mathlib.Core.Bool.{cond}
-use Prim.Native.Nat.{ℕ}
+use Prim.Native.Nat.{ℕ, _+_}
 use lib.Dec.{eqb}
 
 -- load
@@ -8,13 +8,13 @@ abbrev pub sizesList : ℕ
 sizesList = 0
 
 abbrev pub codesList : ℕ
-codesList = 1
+codesList = sizesList + 1
 
 abbrev pub floatsList : ℕ
-floatsList = 2
+floatsList = codesList + 1
 
 abbrev pub limitsList : ℕ
-limitsList = 3
+limitsList = floatsList + 1
 
 -- set_goals
 abbrev pub goalsList : ℕ
@@ -25,7 +25,7 @@ abbrev pub jointsList : ℕ
 jointsList = 0
 
 abbrev pub outputs : ℕ
-outputs = 1
+outputs = jointsList + 1
 
 -- what the state keeps of its party, from here on
 abbrev pub keptLists : ℕ

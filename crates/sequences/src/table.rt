@@ -6,17 +6,17 @@ ghost use Rattle.sequences.specs.Table.{listsOf};
 // load
 pub const SIZES: usize = 0;
 
-pub const CODES: usize = 1;
+pub const CODES: usize = SIZES + 1;
 
-pub const FLOATS: usize = 2;
+pub const FLOATS: usize = CODES + 1;
 
-pub const LIMITS: usize = 3;
+pub const LIMITS: usize = FLOATS + 1;
 // set_goals
 pub const GOALS: usize = 0;
 // every other call but `kept`
 pub const JOINTS: usize = 0;
 
-pub const OUTPUTS: usize = 1;
+pub const OUTPUTS: usize = JOINTS + 1;
 
 pub const SECOND: usize = OUTPUTS + 1;
 

@@ -92,8 +92,8 @@ enum Output {
 
 use Output::{Floats, Numbers, Value};
 
-/// What is asked with the lists of `lent`, and with outputs longer by `spare`
-/// numbers than they need be; of two or more the last.
+/// A step with the lists of `lent`. Outputs are as long as they need be, but for
+/// the last one, which is longer by `spare` numbers, or shorter.
 struct Asked<'a> {
     step: Step,
     lent: &'a Lent,
@@ -283,39 +283,38 @@ fn padded<T: Copy>(written: &[T], room: usize, fill: T) -> Vec<T> {
     all
 }
 
-/// The outputs as they are stored. A refused call writes nothing, and its value
-/// is a NaN.
-fn outputs(state: &State, asked: &Asked, number: u32) -> Vec<Vec<u8>> {
-    let (step, joints) = (asked.step, asked.lent.floats(List::Joints));
-    let accepted = number == ACCEPTED;
-    let shape = state.arms.as_ref().map_or(asked.lent, |(own, _)| own);
-    // What a refused call would have written says how long its outputs are.
+/// The outputs of a refused call: as long as arms of this shape ask, the last
+/// one apart, and as they were. Its value is a NaN.
+fn unwritten(step: Step, shape: &Lent, joints: &[f64]) -> Vec<Output> {
     let counts = &shape.counts;
-    let lengths: Vec<Output> = match step {
-        Frames => vec![
-            Floats(vec![FILL; 3 * (counts.links + counts.chains)]),
-            Floats(vec![]),
-        ],
-        Pose => vec![Floats(vec![])],
+    let floats = |count: usize| Floats(vec![FILL; count]);
+    let numbers = |count: usize| Numbers(vec![FILL_U16; count]);
+    match step {
+        Frames => vec![floats(3 * (counts.links + counts.chains)), floats(0)],
+        Pose => vec![floats(0)],
         Manipulability | Objective => vec![Value(f64::NAN)],
-        Gradient | GradientFiniteDiff => vec![
-            Value(f64::NAN),
-            Floats(vec![FILL; counts.joints]),
-            Floats(vec![]),
-        ],
+        Gradient | GradientFiniteDiff => {
+            vec![Value(f64::NAN), floats(counts.joints), floats(0)]
+        }
         GradientOneBlock => vec![
             Value(f64::NAN),
-            Floats(joints.clone()),
-            Floats(vec![FILL; counts.joints]),
-            Numbers(vec![FILL_U16; counts.walked]),
-            Numbers(vec![FILL_U16; counts.walked]),
-            Floats(vec![]),
+            Floats(joints.to_vec()),
+            floats(counts.joints),
+            numbers(counts.walked),
+            numbers(counts.walked),
+            floats(0),
         ],
         _ => vec![],
-    };
-    let all = match accepted {
-        true => state.written(step, &joints),
-        false => lengths,
+    }
+}
+
+/// The outputs as they are stored; the last one has the room that was asked.
+fn outputs(state: &State, asked: &Asked, number: u32) -> Vec<Vec<u8>> {
+    let (step, joints) = (asked.step, asked.lent.floats(List::Joints));
+    let shape = state.arms.as_ref().map_or(asked.lent, |(own, _)| own);
+    let all = match number {
+        ACCEPTED => state.written(step, &joints),
+        _ => unwritten(step, shape, &joints),
     };
     let last = all.len().saturating_sub(1);
     let mut lists = Vec::new();
