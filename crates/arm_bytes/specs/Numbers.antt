@@ -6,7 +6,7 @@ use native.Mathlib.Omega.{arith}
 use lib.Ieee.{Float}
 use Rattle.refusals.specs.Lengths.{endsLength, historyLength, valueLength}
 use Rattle.refusals.specs.Lowest.{firstOf, first-zero, first-some}
-use Rattle.refusals.specs.Refusal.{chainsOf, linksOf, blockRefusal, historyRefusal, goalsRefusal, roomRefusal}
+use Rattle.refusals.specs.Refusal.{chainsOf, linksOf, blockRefusal, historyRefusal, roomRefusal}
 use Rattle.refusals.specs.Rows.{Row, firstRow, upFrom, IsLowest, lowest-row, loadRows, blockRow, historyRow, goalsRow, roomRow, block-row, history-row, goals-row, room-row, load-row, load-lowest, alone}
 use Rattle.calls.specs.Frames.{poseRefusal}
 use Rattle.calls.specs.Rows.{framesRows, poseRows, room-alone, frames-rows, pose-rows}

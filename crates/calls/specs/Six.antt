@@ -1,8 +1,8 @@
 -- A chain under six joints has manipulability 0 whatever its poses, so where every chain is such nothing needs to be walked.
-use mathlib.Core.Path.{_≡_, refl, sym, ap, _∙_}
-use mathlib.Core.Bool.{Bool, true, false, cond, not}
+use mathlib.Core.Path.{_≡_, refl, ap, _∙_}
+use mathlib.Core.Bool.{Bool, true, false, not}
 use mathlib.Core.List.{List}
-use Prim.Native.Nat.{ℕ, zero, suc, _+_}
+use Prim.Native.Nat.{ℕ, zero, suc}
 use native.Mathlib.Numerals.{add-one}
 use lib.Dec.{ltb}
 use lib.Ieee.{Float, add, ofBits, ofInt}

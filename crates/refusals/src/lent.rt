@@ -3,6 +3,7 @@ use crate::lengths;
 use crate::range;
 use sheet::chain;
 use sheet::code;
+use sheet::reader;
 ghost use mathlib.Core.Path.{_≡_};
 ghost use Prim.Native.Nat.{_+_, _*_, _≤_};
 ghost use lib.ListN.{length};
@@ -43,7 +44,7 @@ fn block_fits(codes: &[u16], list: &[f64], at: usize) -> bool
     let mut j = at;
     let mut l: usize = 0;
     while l < codes.len() {
-        ok = range::both(ok, value_fits(codes[l], list, j));
+        ok = range::both(ok, value_fits(reader::read(codes, l), list, j));
         j = chain::next_joint(codes, l, j);
         l += 1;
     }

@@ -1,5 +1,5 @@
 -- `manipulability` meets its contract: a bad block is refused; chains under six joints add up to 0; else the view is that of the walk's poses.
-use mathlib.Core.Path.{_≡_, refl, sym, ap, _∙_}
+use mathlib.Core.Path.{_≡_, refl, sym, _∙_}
 use native.Mathlib.Omega.{arith}
 use denote.Ref.{now}
 use lib.Ieee.{nan}

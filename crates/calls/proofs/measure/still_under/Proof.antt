@@ -1,5 +1,4 @@
 -- `still_under` meets its contract: each return follows the test.
-use borrow.Author.Needs.{needs}
 use Rattle.calls.proofs.measure.still_under.Statement.{statement}
 use Rattle.calls.proofs.measure.still_under.Tie as tie
 

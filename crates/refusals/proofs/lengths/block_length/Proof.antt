@@ -1,6 +1,5 @@
 -- `lengths::block_length` meets its contract: the number after the last link is that of all joints.
 use mathlib.Core.Path.{_∙_}
-use denote.Ref.{now}
 use Rattle.sheet.specs.Chain.{joint-last}
 use borrow.Author.Needs.{needs}
 use Rattle.refusals.proofs.lengths.block_length.Statement.{statement}

@@ -1,7 +1,7 @@
 -- `lent::block_fits` meets its contract. The loop carries the answer for the links passed, and the place of the next joint.
 -- The measure is the number of links left.
 use mathlib.Core.Path.{_≡_, sym, ap, _∙_}
-use Prim.Native.Nat.{_+_, _-_, _≤_}
+use Prim.Native.Nat.{ℕ, _+_, _-_, _≤_}
 use native.Mathlib.Omega.{arith}
 use lib.ListN.{length, getD}
 use denote.Ref.{now}
@@ -11,6 +11,7 @@ use Rattle.refusals.specs.Refusal.{valueFits, linkValueFits, blockFits}
 use borrow.Author.Needs.{needs}
 use Rattle.refusals.proofs.lent.block_fits.Statement.{statement}
 use Rattle.refusals.proofs.lent.block_fits.Tie as tie
+use Rattle.sheet.proofs.reader.read.Reads as read-reads
 
 abbrev Inv-loop : tie.InvT-loop
 Inv-loop codes list at ok₀ j₀ l₀ ok j l = (l ≤ length codes) × (ok ≡ every (linkValueFits codes list at) l) × (j ≡ at + jointOf codes l)
@@ -29,14 +30,11 @@ inside c =
 loop-holds : tie.Need-loop-holds Inv-loop μ-loop
 loop-holds c = (omega arith, sym (every-none _), omega (arith, joint-zero (now (c .before .before .args .codes))))
 
-mul-value-fits : tie.Need-mul-value-fits Inv-loop μ-loop
-mul-value-fits c = omega arith
-
-shared-slice-read-value-fits : tie.Need-shared-slice-read-value-fits Inv-loop μ-loop
-shared-slice-read-value-fits c = omega arith
+read-requires : tie.Need-read-requires Inv-loop μ-loop
+read-requires c κs = search needs
 
 value-fits-requires : tie.Need-value-fits-requires Inv-loop μ-loop
-value-fits-requires c κs = inside (c .before)
+value-fits-requires c κs = omega (arith, inside (c .before), ap jointsOf (c .read .ensures))
 
 both-requires : tie.Need-both-requires Inv-loop μ-loop
 both-requires c κs = search needs
@@ -59,7 +57,7 @@ loop-again c =
     let s = l .before .before .before in
     let i = l .loop .inv in (
       omega arith,
-      every-turn _ _ _ _ _ (i .1) (c .before .before .value-fits .ensures ∙ ap (valueFits _ (now (s .args .list))) (i .2)) (c .before .both .ensures),
+      every-turn _ _ _ _ _ (i .1) (c .before .before .value-fits .ensures ∙ ap (λ (k : ℕ). valueFits k (now (s .args .list)) (l .loop .j)) (c .before .before .before .read .ensures) ∙ ap (valueFits _ (now (s .args .list))) (i .2)) (c .before .both .ensures),
       omega (arith, c .next-joint .ensures, joint-more (now (s .args .codes)) (l .loop .l), i .2),
     )
 
@@ -74,8 +72,7 @@ block-fits-spec =
     Inv-loop
     μ-loop
     loop-holds
-    mul-value-fits
-    shared-slice-read-value-fits
+    read-requires
     value-fits-requires
     both-requires
     next-joint-requires

@@ -1,5 +1,5 @@
 -- `lent::block_refusal` meets its contract: each return follows the tests before it.
-use mathlib.Core.Path.{_≡_, sym, _∙_}
+use mathlib.Core.Path.{sym, _∙_}
 use native.Mathlib.Omega.{arith}
 use borrow.Author.Tests.{eq-eqb, ne-eqb}
 use Rattle.refusals.specs.Refusal.{badBlock, blockRefusal}
