@@ -1,4 +1,4 @@
--- `frames` meets its contract: a refusal writes nothing; else the lists are made of the walk's poses. Assumes nothing.
+-- `frames` meets its contract: a refusal writes nothing; else the lists are made of the walk's poses.
 use mathlib.Core.Path.{_≡_, refl, sym, ap, _∙_}
 use Prim.Native.Nat.{_≤_}
 use native.Mathlib.Omega.{arith}

@@ -1,4 +1,4 @@
--- `pose` meets its contract: a refusal writes nothing; else the list is made of the walk's poses. Assumes nothing.
+-- `pose` meets its contract: a refusal writes nothing; else the list is made of the walk's poses.
 use mathlib.Core.Path.{_≡_, refl, sym, ap, _∙_}
 use Prim.Native.Nat.{_≤_}
 use native.Mathlib.Omega.{arith}

@@ -1,4 +1,4 @@
--- `finite_diff_on` meets its contract: the value first, then the slopes. Assumes nothing.
+-- `finite_diff_on` meets its contract: the value first, then the slopes.
 use native.Mathlib.Omega.{arith}
 use denote.Ref.{now}
 use Rattle.objective_master.specs.Losses.{Given, given}

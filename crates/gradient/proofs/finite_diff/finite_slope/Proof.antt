@@ -1,4 +1,4 @@
--- `finite_slope` meets its contract: the value at the raised block, and the old value put back. Assumes nothing.
+-- `finite_slope` meets its contract: the value at the raised block, and the old value put back.
 use native.Mathlib.Omega.{arith}
 use denote.Ref.{now}
 use Rattle.objective_master.specs.Losses.{Given, given}

@@ -1,4 +1,4 @@
--- `gradient` meets its contract: the joints in front of scratch are the block that is raised and put back. Assumes nothing.
+-- `gradient` meets its contract: the joints in front of scratch are the block that is raised and put back.
 use mathlib.Core.Path.{_≡_, sym, ap, subst, _∙_}
 use mathlib.Core.List.{List}
 use native.Mathlib.Omega.{arith}

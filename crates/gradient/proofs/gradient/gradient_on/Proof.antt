@@ -1,4 +1,4 @@
--- `gradient_on` meets its contract: value and losses first, then the slopes. Assumes nothing.
+-- `gradient_on` meets its contract: value and losses first, then the slopes.
 use native.Mathlib.Omega.{arith}
 use denote.Ref.{now}
 use Rattle.objective_master.specs.Losses.{Given, given}

@@ -1,4 +1,4 @@
--- `put_gradient` meets its contract: turn after turn one slope more, and the block as it came. Assumes nothing.
+-- `put_gradient` meets its contract: turn after turn one slope more, and the block as it came.
 use mathlib.Core.Path.{_≡_, refl, sym, ap, subst, _∙_}
 use mathlib.Core.List.{List}
 use Prim.Native.Nat.{ℕ, _-_, _≤_, _<_}

@@ -1,4 +1,4 @@
--- `slope` meets its contract: the losses of the raised block, and the old value put back. Assumes nothing.
+-- `slope` meets its contract: the losses of the raised block, and the old value put back.
 use mathlib.Core.Path.{_≡_, sym, ap, _∙_}
 use mathlib.Core.List.{List}
 use Prim.Native.Nat.{_+_, _*_, _≤_}

@@ -1,4 +1,4 @@
--- `weighted_slope` meets its contract: the slopes, then their weighted sum. Assumes nothing.
+-- `weighted_slope` meets its contract: the slopes, then their weighted sum.
 use mathlib.Core.Path.{ap, _∙_}
 use denote.Ref.{now}
 use Rattle.objective_master.specs.Objective.{objectives}

@@ -1,4 +1,4 @@
--- `losses_of` meets its contract: every link is walked, so no loss has to stand. Assumes nothing.
+-- `losses_of` meets its contract: every link is walked, so no loss has to stand.
 use mathlib.Core.Path.{ap, _∙_}
 use native.Mathlib.Omega.{arith}
 use denote.Ref.{now}

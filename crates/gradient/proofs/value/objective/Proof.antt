@@ -1,4 +1,4 @@
--- `objective` meets its contract. Assumes nothing.
+-- `objective` meets its contract.
 use native.Mathlib.Omega.{arith}
 use denote.Ref.{now}
 use Rattle.objective_master.specs.Losses.{Given, given}

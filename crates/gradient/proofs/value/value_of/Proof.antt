@@ -1,4 +1,4 @@
--- `value_of` meets its contract: the losses, then their weighted sum. Assumes nothing.
+-- `value_of` meets its contract: the losses, then their weighted sum.
 use mathlib.Core.Path.{_≡_, sym}
 use Prim.Native.Nat.{_+_, _*_, _≤_}
 use native.Mathlib.Omega.{arith}

@@ -1,4 +1,4 @@
--- `put_axis` meets its contract: a fixed link writes nothing. Assumes nothing.
+-- `put_axis` meets its contract: a fixed link writes nothing.
 use mathlib.Core.Path.{_≡_, sym, ap, _∙_}
 use native.Mathlib.Omega.{arith}
 use denote.Ref.{now}

@@ -1,4 +1,4 @@
--- `gradient` meets its contract: a refusal writes nothing; else what is lent is ready. Assumes nothing.
+-- `gradient` meets its contract: a refusal writes nothing; else what is lent is ready.
 use mathlib.Core.Path.{_≡_, refl, sym, _∙_}
 use native.Mathlib.Omega.{arith}
 use denote.Ref.{now}

@@ -1,4 +1,4 @@
--- `slopes_refusal` meets its contract: by what its calls ensure. Assumes nothing.
+-- `slopes_refusal` meets its contract: by what its calls ensure.
 use Rattle.objective_calls.specs.Aimed.{slopesRefusal}
 use borrow.Author.Needs.{needs}
 use Rattle.objective_calls.proofs.slopes.slopes_refusal.Statement.{statement}

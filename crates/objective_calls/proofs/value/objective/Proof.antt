@@ -1,4 +1,4 @@
--- `objective` meets its contract: a bad block is refused; else what is lent is ready. Assumes nothing.
+-- `objective` meets its contract: a bad block is refused; else what is lent is ready.
 use mathlib.Core.Path.{_≡_, refl, sym, _∙_}
 use denote.Ref.{now}
 use lib.Ieee.{nan}

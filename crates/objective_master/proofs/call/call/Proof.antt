@@ -1,4 +1,4 @@
--- `call` meets its contract: the losses, then their weighted sum. Assumes nothing.
+-- `call` meets its contract: the losses, then their weighted sum.
 use mathlib.Core.Path.{sym, _∙_}
 use native.Mathlib.Omega.{arith}
 use denote.Ref.{now}

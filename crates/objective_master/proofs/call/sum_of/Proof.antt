@@ -1,4 +1,4 @@
--- `sum_of` meets its contract. Assumes nothing.
+-- `sum_of` meets its contract.
 use mathlib.Core.Path.{_≡_, sym, _∙_}
 use native.Mathlib.Omega.{arith}
 use denote.Ref.{now}

@@ -1,4 +1,4 @@
--- `put_changes` meets its contract. Assumes nothing.
+-- `put_changes` meets its contract.
 use mathlib.Core.Path.{ap, _∙_}
 use denote.Ref.{now}
 use Rattle.lists.specs.Splice.{splice}

@@ -1,4 +1,4 @@
--- `put_losses` meets its contract: section after section, each behind those before it. Assumes nothing.
+-- `put_losses` meets its contract: section after section, each behind those before it.
 use mathlib.Core.Path.{refl, sym, ap, subst, _∙_}
 use mathlib.Core.Bool.{Bool}
 use mathlib.Core.List.{List}

@@ -1,4 +1,4 @@
--- `put_motion` meets its contract: two runs that touch are one. Assumes nothing.
+-- `put_motion` meets its contract: two runs that touch are one.
 use mathlib.Core.Path.{_≡_, sym, ap, _∙_}
 use mathlib.Core.List.{List, [], _∷_, _++_}
 use Prim.Native.Nat.{_+_}

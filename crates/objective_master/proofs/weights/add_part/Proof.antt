@@ -1,4 +1,4 @@
--- `add_part` meets its contract: turn after turn one term more. Assumes nothing.
+-- `add_part` meets its contract: turn after turn one term more.
 use mathlib.Core.Path.{_≡_, ap, _∙_}
 use Prim.Native.Nat.{_-_, _≤_}
 use native.Mathlib.Omega.{arith}

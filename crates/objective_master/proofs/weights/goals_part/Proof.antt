@@ -1,4 +1,4 @@
--- `goals_part` meets its contract: turn after turn the goals of one chain more. Assumes nothing.
+-- `goals_part` meets its contract: turn after turn the goals of one chain more.
 use mathlib.Core.Path.{_≡_, ap, _∙_}
 use Prim.Native.Nat.{_-_, _≤_}
 use native.Mathlib.Omega.{arith}

@@ -1,4 +1,4 @@
--- `motion_part` meets its contract. Assumes nothing.
+-- `motion_part` meets its contract.
 use Rattle.objective_master.specs.Weights.{motionPart}
 use borrow.Author.Needs.{needs}
 use Rattle.objective_master.proofs.weights.motion_part.Statement.{statement}

@@ -1,4 +1,4 @@
--- `weighted_sum` meets its contract: its sections make the whole. Assumes nothing.
+-- `weighted_sum` meets its contract: its sections make the whole.
 use mathlib.Core.Path.{ap, _∙_}
 use Prim.Native.Nat.{ℕ}
 use denote.Ref.{now}

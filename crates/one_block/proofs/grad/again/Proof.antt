@@ -1,4 +1,4 @@
--- `again` meets its contract: a fixed link adds nothing, another what `one_joint` adds. Assumes nothing.
+-- `again` meets its contract: a fixed link adds nothing, another what `one_joint` adds.
 use mathlib.Core.Path.{refl, sym, _∙_}
 use borrow.Author.Tests.{not-true, not-false}
 use Prim.Native.Nat.{_*_}

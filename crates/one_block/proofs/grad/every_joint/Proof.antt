@@ -1,4 +1,4 @@
--- `every_joint` meets its contract: link after link what its joint's copy adds. Assumes nothing.
+-- `every_joint` meets its contract: link after link what its joint's copy adds.
 use mathlib.Core.Path.{_≡_, refl, sym, ap, _∙_, subst}
 use mathlib.Core.List.{List}
 use Prim.Native.Nat.{ℕ, _+_, _-_, _*_, _≤_, _<_}

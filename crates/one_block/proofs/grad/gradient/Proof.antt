@@ -1,4 +1,4 @@
--- `gradient` meets its contract: the first walk, its losses, then every joint's turn. Assumes nothing.
+-- `gradient` meets its contract: the first walk, its losses, then every joint's turn.
 use mathlib.Core.Path.{_≡_, sym, ap, _∙_}
 use mathlib.Core.List.{List}
 use Prim.Native.Nat.{ℕ, _*_, _≤_}

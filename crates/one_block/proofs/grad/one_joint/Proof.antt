@@ -1,4 +1,4 @@
--- `one_joint` meets its contract: what is walked again is its joint's copy, the slope is read from it, and the old value gives the block back. Assumes nothing.
+-- `one_joint` meets its contract: what is walked again is its joint's copy, the slope is read from it, and the old value gives the block back.
 use mathlib.Core.Path.{_≡_, sym, ap, _∙_, subst}
 use mathlib.Core.List.{List}
 use Prim.Native.Nat.{ℕ, _+_, _-_, _*_, _≤_, _<_}

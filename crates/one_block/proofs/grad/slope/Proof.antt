@@ -1,4 +1,4 @@
--- `slope` meets its contract: the first losses are copied, those that are touched are made anew, and all become slopes. Assumes nothing.
+-- `slope` meets its contract: the first losses are copied, those that are touched are made anew, and all become slopes.
 use mathlib.Core.Path.{_≡_, sym, ap, _∙_, subst}
 use mathlib.Core.List.{List}
 use Prim.Native.Nat.{ℕ, _-_, _*_}

@@ -1,4 +1,4 @@
--- `gradient_one_block` meets its contract: a refusal writes nothing; else what is lent is ready. Assumes nothing.
+-- `gradient_one_block` meets its contract: a refusal writes nothing; else what is lent is ready.
 use mathlib.Core.Path.{_≡_, refl, sym, _∙_}
 use native.Mathlib.Omega.{arith}
 use denote.Ref.{now}

@@ -1,4 +1,4 @@
--- `one_block_refusal` meets its contract: by what its calls ensure. Assumes nothing.
+-- `one_block_refusal` meets its contract: by what its calls ensure.
 use native.Mathlib.Omega.{arith}
 use denote.Ref.{now}
 use Rattle.one_block_calls.specs.Room.{oneBlockRefusal, entries-most}

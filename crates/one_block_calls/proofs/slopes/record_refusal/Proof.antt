@@ -1,4 +1,4 @@
--- `record_refusal` meets its contract: by what its calls ensure. Assumes nothing.
+-- `record_refusal` meets its contract: by what its calls ensure.
 use Rattle.one_block_calls.specs.Room.{recordRefusal}
 use borrow.Author.Needs.{needs}
 use Rattle.one_block_calls.proofs.slopes.record_refusal.Statement.{statement}

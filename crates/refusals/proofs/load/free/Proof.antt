@@ -1,4 +1,4 @@
--- `load::free` meets its contract: each return follows the tests before it. Assumes nothing.
+-- `load::free` meets its contract: each return follows the tests before it.
 use lib.Ieee.{ofInt, ofBits}
 use Rattle.groove.specs.Loss.{freeOf}
 use Rattle.refusals.proofs.load.free.Statement.{statement}

@@ -1,5 +1,5 @@
 -- `shape::bad_joints` meets its contract. The loop carries both answers for the chains passed, the next link and its joint.
--- The measure is the number of chains left. Assumes nothing.
+-- The measure is the number of chains left.
 use mathlib.Core.Path.{_≡_, refl, sym, ap, _∙_}
 use mathlib.Core.Bool.{not, _||_}
 use Prim.Native.Nat.{ℕ, _+_, _-_, _≤_}

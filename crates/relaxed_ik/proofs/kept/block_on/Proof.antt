@@ -1,4 +1,4 @@
--- `block_on` meets its contract: each return follows the test. Assumes nothing.
+-- `block_on` meets its contract: each return follows the test.
 use mathlib.Core.Path.{_≡_, sym, ap, _∙_}
 use mathlib.Core.List.{List}
 use Prim.Native.Nat.{ℕ}

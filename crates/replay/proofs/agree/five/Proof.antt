@@ -1,4 +1,4 @@
--- `five` meets its contract: the first three outputs are looked at before the fourth, and that before the fifth. Assumes nothing.
+-- `five` meets its contract: the first three outputs are looked at before the fourth, and that before the fifth.
 use mathlib.Core.Path.{sym, ap, _∙_}
 use mathlib.Core.List.{[], _∷_}
 use borrow.Author.Tests.{not-true, not-false}

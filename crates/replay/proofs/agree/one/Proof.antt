@@ -1,4 +1,4 @@
--- `one` meets its contract: the number is looked at first, then the output. Assumes nothing.
+-- `one` meets its contract: the number is looked at first, then the output.
 use mathlib.Core.Path.{_≡_, sym, ap, _∙_}
 use mathlib.Core.List.{[]}
 use borrow.Author.Tests.{not-true, not-false}

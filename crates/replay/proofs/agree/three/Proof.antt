@@ -1,4 +1,4 @@
--- `three` meets its contract: the first two outputs are looked at before the third. Assumes nothing.
+-- `three` meets its contract: the first two outputs are looked at before the third.
 use mathlib.Core.Path.{sym, ap, _∙_}
 use mathlib.Core.List.{[], _∷_}
 use borrow.Author.Tests.{not-true, not-false}

@@ -1,4 +1,4 @@
--- `two` meets its contract: the first output is looked at before the second. Assumes nothing.
+-- `two` meets its contract: the first output is looked at before the second.
 use mathlib.Core.Path.{sym, ap, _∙_}
 use mathlib.Core.List.{[], _∷_}
 use borrow.Author.Tests.{not-true, not-false}

@@ -1,4 +1,4 @@
--- `reset` meets its contract: the call is lent the record's lists, and outputs that are filled. Assumes nothing.
+-- `reset` meets its contract: the call is lent the record's lists, and outputs that are filled.
 use mathlib.Core.Path.{ap, _∙_}
 use mathlib.Core.List.{[], _∷_}
 use Prim.Native.Nat.{_+_}

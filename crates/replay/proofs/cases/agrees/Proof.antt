@@ -1,4 +1,4 @@
--- `agrees` meets its contract: by the tests of the call's number. Assumes nothing.
+-- `agrees` meets its contract: by the tests of the call's number.
 use native.Mathlib.Omega.{arith}
 use borrow.Author.Tests.{eq-eqb, ne-eqb, lt-ltb, le-ltb}
 use Rattle.replay.specs.Cases.{callAgrees, recordAgrees}

@@ -1,4 +1,4 @@
--- `one_output` meets its contract: the output that the call is lent is filled. Assumes nothing.
+-- `one_output` meets its contract: the output that the call is lent is filled.
 use mathlib.Core.Path.{_≡_, sym, ap, _∙_}
 use Prim.Native.Nat.{ℕ}
 use native.Mathlib.Omega.{arith}

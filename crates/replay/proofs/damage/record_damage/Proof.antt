@@ -1,4 +1,4 @@
--- `record_damage` meets its contract: each return follows the tests before it. Assumes nothing.
+-- `record_damage` meets its contract: each return follows the tests before it.
 use borrow.Author.Tests.{lt-ltb, le-ltb}
 use Rattle.stored_answers.specs.Records.{damageAt}
 use borrow.Author.Needs.{needs}

@@ -1,4 +1,4 @@
--- `floats` meets its contract: the floats' bytes go to the front of a list that has room for them. Assumes nothing.
+-- `floats` meets its contract: the floats' bytes go to the front of a list that has room for them.
 use mathlib.Core.Path.{refl, ap, _∙_}
 use Rattle.stored_answers.specs.Agree.{same-answer}
 use mathlib.Core.List.{List, [], _∷_}

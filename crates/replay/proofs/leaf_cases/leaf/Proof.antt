@@ -1,4 +1,4 @@
--- `leaf` meets its contract: each return follows the tests before it. Assumes nothing.
+-- `leaf` meets its contract: each return follows the tests before it.
 use mathlib.Core.Path.{refl, sym, ap, _∙_}
 use mathlib.Core.List.{List, [], _∷_}
 use lib.Ieee.{Float}

@@ -1,4 +1,4 @@
--- `objective` meets its contract: the call is lent the record's lists, and outputs that are filled. Assumes nothing.
+-- `objective` meets its contract: the call is lent the record's lists, and outputs that are filled.
 use mathlib.Core.Path.{ap, _∙_}
 use mathlib.Core.List.{[], _∷_}
 use native.Mathlib.Omega.{arith}

@@ -1,4 +1,4 @@
--- `each_call` meets its contract: each turn adds one call's counts. Assumes nothing.
+-- `each_call` meets its contract: each turn adds one call's counts.
 use mathlib.Core.Path.{_≡_, refl, sym, ap, _∙_}
 use Prim.Native.Nat.{_+_, _*_, _-_, _≤_}
 use native.Mathlib.Omega.{arith}

@@ -1,4 +1,4 @@
--- `lists` meets its contract: by what its calls ensure. Assumes nothing.
+-- `lists` meets its contract: by what its calls ensure.
 use native.Mathlib.Omega.{arith}
 use Rattle.replay.specs.Table.{listsOf}
 use borrow.Author.Needs.{needs}

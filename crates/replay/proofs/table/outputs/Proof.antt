@@ -1,4 +1,4 @@
--- `outputs` meets its contract: by the tests of the call's number. Assumes nothing.
+-- `outputs` meets its contract: by the tests of the call's number.
 use native.Mathlib.Omega.{arith}
 use borrow.Author.Tests.{lt-ltb, le-ltb, eq-eqb, ne-eqb}
 use Rattle.replay.specs.Table.{outputsOf}

@@ -1,4 +1,4 @@
--- `outputs_from` meets its contract: by the call's number. Assumes nothing.
+-- `outputs_from` meets its contract: by the call's number.
 use native.Mathlib.Omega.{arith}
 use borrow.Author.Tests.{ne-eqb}
 use Rattle.replay.specs.Table.{outputsFrom}

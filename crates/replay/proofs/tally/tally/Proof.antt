@@ -1,4 +1,4 @@
--- `tally` meets its contract: each turn counts one record. Assumes nothing.
+-- `tally` meets its contract: each turn counts one record.
 use mathlib.Core.Path.{_≡_, refl, sym, ap, _∙_}
 use Prim.Native.Nat.{_+_, _*_, _-_, _≤_}
 use native.Mathlib.Omega.{arith}

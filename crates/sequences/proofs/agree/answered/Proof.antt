@@ -1,4 +1,4 @@
--- `answered` meets its contract: the number, then the value. Assumes nothing.
+-- `answered` meets its contract: the number, then the value.
 use mathlib.Core.Path.{ap}
 use mathlib.Core.List.{[], _∷_}
 use lib.Ieee.{Float}

@@ -1,4 +1,4 @@
--- `number` meets its contract: by what its call ensures. Assumes nothing.
+-- `number` meets its contract: by what its call ensures.
 use mathlib.Core.Path.{sym, ap, _∙_}
 use lib.Dec.{eqb}
 use Rattle.stored_answers.specs.Agree.{agrees-none}

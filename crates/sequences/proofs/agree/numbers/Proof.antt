@@ -1,4 +1,4 @@
--- `numbers` meets its contract: by what its calls ensure. Assumes nothing.
+-- `numbers` meets its contract: by what its calls ensure.
 use mathlib.Core.Path.{ap, _∙_}
 use borrow.Author.Tests.{not-true, not-false}
 use Rattle.lent_bytes.specs.Lent.{bytesOfNumbers}

@@ -1,4 +1,4 @@
--- `frames` meets its contract: the number, the positions, the rotations. Assumes nothing.
+-- `frames` meets its contract: the number, the positions, the rotations.
 use mathlib.Core.Path.{ap, _∙_}
 use mathlib.Core.List.{List, [], _∷_}
 use lib.Ieee.{Float}

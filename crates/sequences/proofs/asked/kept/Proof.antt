@@ -1,4 +1,4 @@
--- `kept` meets its contract: list after list. Assumes nothing.
+-- `kept` meets its contract: list after list.
 use mathlib.Core.Path.{_≡_, refl, sym}
 use mathlib.Core.List.{List, [], _∷_}
 use lib.ListN.{length}

@@ -1,4 +1,4 @@
--- `manipulability` meets its contract: by what its calls ensure. Assumes nothing.
+-- `manipulability` meets its contract: by what its calls ensure.
 use mathlib.Core.Path.{ap, _∙_}
 use mathlib.Core.List.{List, [], _∷_}
 use lib.Ieee.{Float}

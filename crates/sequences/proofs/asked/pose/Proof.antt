@@ -1,4 +1,4 @@
--- `pose` meets its contract: the number, then the end poses. Assumes nothing.
+-- `pose` meets its contract: the number, then the end poses.
 use mathlib.Core.Path.{ap, _∙_}
 use mathlib.Core.List.{List, [], _∷_}
 use lib.Ieee.{Float}

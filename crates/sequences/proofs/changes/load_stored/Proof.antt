@@ -1,4 +1,4 @@
--- `load_stored` meets its contract: by what its calls ensure of the decoded lists. Assumes nothing.
+-- `load_stored` meets its contract: by what its calls ensure of the decoded lists.
 use mathlib.Core.Path.{ap, _∙_}
 use Rattle.lent_bytes.specs.Lent.{numbersIn, floatsIn}
 use Rattle.relaxed_ik.specs.Load.{loadOf}

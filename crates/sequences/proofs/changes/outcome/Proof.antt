@@ -1,4 +1,4 @@
--- `outcome` meets its contract: by the call's number. Assumes nothing.
+-- `outcome` meets its contract: by the call's number.
 use mathlib.Core.Path.{ap}
 use borrow.Author.Tests.{ne-eqb}
 use Rattle.relaxed_ik.specs.declared.state.State.{State}

@@ -1,4 +1,4 @@
--- `damage` meets its contract: the first damage found is the list's. Assumes nothing.
+-- `damage` meets its contract: the first damage found is the list's.
 use Rattle.sequences.specs.Table.{listsOf}
 use Rattle.sequences.specs.Steps.{endOf, recordAt}
 use Rattle.stored_answers.specs.Stored.{numberAt}

@@ -1,4 +1,4 @@
--- `after` meets its contract: the state of the outcome. Assumes nothing.
+-- `after` meets its contract: the state of the outcome.
 use mathlib.Core.Path.{ap, _∙_}
 use Prim.Native.Nat.{ℕ}
 use Rattle.relaxed_ik.specs.declared.state.Outcome.{Outcome}

@@ -1,4 +1,4 @@
--- `asked_on` meets its contract: by the call's number. Assumes nothing.
+-- `asked_on` meets its contract: by the call's number.
 use borrow.Author.Tests.{ne-eqb}
 use Rattle.sequences.specs.Asked.{askedAgrees}
 use borrow.Author.Needs.{needs}

@@ -1,4 +1,4 @@
--- `asked_stored` meets its contract: the joints are decoded. Assumes nothing.
+-- `asked_stored` meets its contract: the joints are decoded.
 use mathlib.Core.Path.{ap, _∙_}
 use Rattle.lent_bytes.specs.Lent.{floatsIn}
 use borrow.Author.Needs.{needs}

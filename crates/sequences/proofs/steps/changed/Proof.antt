@@ -1,4 +1,4 @@
--- `changed` meets its contract: the number of the outcome. Assumes nothing.
+-- `changed` meets its contract: the number of the outcome.
 use mathlib.Core.Path.{ap, _∙_}
 use mathlib.Core.List.{[]}
 use Rattle.relaxed_ik.specs.declared.state.Outcome.{Outcome}

@@ -1,4 +1,4 @@
--- `gradient_one_block` meets its contract: the block is decoded, and the outputs that the call is lent are filled. Assumes nothing.
+-- `gradient_one_block` meets its contract: the block is decoded, and the outputs that the call is lent are filled.
 use mathlib.Core.Path.{sym, ap, _∙_}
 use native.Mathlib.Omega.{arith}
 use lib.Seq.{length-take-le}

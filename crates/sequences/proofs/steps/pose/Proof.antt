@@ -1,4 +1,4 @@
--- `pose` meets its contract: the output that the call is lent is filled. Assumes nothing.
+-- `pose` meets its contract: the output that the call is lent is filled.
 use mathlib.Core.Path.{sym}
 use native.Mathlib.Omega.{arith}
 use lib.Seq.{length-take-le}

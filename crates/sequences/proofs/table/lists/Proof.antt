@@ -1,4 +1,4 @@
--- `lists` meets its contract: by the call's number. Assumes nothing.
+-- `lists` meets its contract: by the call's number.
 use native.Mathlib.Omega.{arith}
 use borrow.Author.Tests.{ne-eqb}
 use Rattle.sequences.specs.Table.{listsOf}

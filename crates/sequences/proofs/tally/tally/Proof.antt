@@ -1,4 +1,4 @@
--- `tally` meets its contract: each turn makes one step and counts it. Assumes nothing.
+-- `tally` meets its contract: each turn makes one step and counts it.
 use mathlib.Core.Path.{_≡_, refl, sym, ap, _∙_}
 use Prim.Native.Nat.{_+_, _*_, _-_, _≤_}
 use native.Mathlib.Omega.{arith}

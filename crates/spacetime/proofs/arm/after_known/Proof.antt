@@ -1,4 +1,4 @@
--- `after_known` meets its contract: the rotation that is read is the one after the link. Assumes nothing.
+-- `after_known` meets its contract: the rotation that is read is the one after the link.
 use mathlib.Core.Path.{_∙_}
 use Rattle.spacetime.specs.Turns.{pose-known}
 use borrow.Author.Needs.{needs}

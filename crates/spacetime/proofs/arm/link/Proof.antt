@@ -1,4 +1,4 @@
--- `link` meets its contract: by what its calls ensure. Assumes nothing.
+-- `link` meets its contract: by what its calls ensure.
 use Rattle.spacetime.specs.Link.{linkOf}
 use borrow.Author.Needs.{needs}
 use Rattle.spacetime.proofs.arm.link.Statement.{statement}

@@ -1,4 +1,4 @@
--- `slid` meets its contract: each return follows the test. Assumes nothing.
+-- `slid` meets its contract: each return follows the test.
 use borrow.Author.Tests.{eq-eqb, ne-eqb}
 use Rattle.spacetime.specs.Link.{slidOf}
 use borrow.Author.Needs.{needs}

@@ -1,4 +1,4 @@
--- `value` meets its contract: a fixed link reads nothing. Assumes nothing.
+-- `value` meets its contract: a fixed link reads nothing.
 use mathlib.Core.Path.{sym, _∙_}
 use native.Mathlib.Omega.{arith}
 use Rattle.sheet.specs.Code.{joint-there}

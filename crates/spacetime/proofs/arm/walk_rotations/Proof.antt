@@ -1,4 +1,4 @@
--- `walk_rotations` meets its contract: turn after turn one rotation more, and the turns ahead as they came. Assumes nothing.
+-- `walk_rotations` meets its contract: turn after turn one rotation more, and the turns ahead as they came.
 use mathlib.Core.Path.{_≡_, refl, ap, _∙_}
 use mathlib.Core.List.{List}
 use Prim.Native.Nat.{ℕ, _-_, _*_, _≤_}

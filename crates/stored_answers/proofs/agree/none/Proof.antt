@@ -1,4 +1,4 @@
--- `none` meets its contract: by what its call ensures. Assumes nothing.
+-- `none` meets its contract: by what its call ensures.
 use Rattle.stored_answers.specs.Agree.{agrees-none}
 use mathlib.Core.Path.{sym, ap, _∙_}
 use lib.Dec.{eqb}

@@ -1,4 +1,4 @@
--- `same` meets its contract: it goes on while the bytes passed are the same. Assumes nothing.
+-- `same` meets its contract: it goes on while the bytes passed are the same.
 use mathlib.Core.List.{List}
 use mathlib.Core.Path.{_≡_, sym, ap}
 use Prim.Native.Nat.{ℕ, _≤_, _<_, _-_}

@@ -1,4 +1,4 @@
--- `list` meets its contract: by what its calls ensure. Assumes nothing.
+-- `list` meets its contract: by what its calls ensure.
 use Rattle.stored_answers.specs.Stored.{listOf}
 use borrow.Author.Needs.{needs}
 use Rattle.stored_answers.proofs.stored.list.Statement.{statement}

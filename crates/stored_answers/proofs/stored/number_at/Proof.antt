@@ -1,4 +1,4 @@
--- `number_at` meets its contract: each return follows the test of the length. Assumes nothing.
+-- `number_at` meets its contract: each return follows the test of the length.
 use native.Mathlib.Omega.{arith}
 use borrow.Author.Tests.{lt-ltb, le-ltb}
 use Rattle.stored_answers.specs.Stored.{numberAt}

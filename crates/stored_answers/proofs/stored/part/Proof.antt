@@ -1,4 +1,4 @@
--- `part` meets its contract: each return follows the test of the length. Assumes nothing.
+-- `part` meets its contract: each return follows the test of the length.
 use Prim.Native.Nat.{_+_, _-_}
 use mathlib.Core.Path.{_≡_}
 use native.Mathlib.Omega.{arith}

@@ -1,4 +1,4 @@
--- `place` meets its contract: each turn passes one list. Assumes nothing.
+-- `place` meets its contract: each turn passes one list.
 use mathlib.Core.Path.{_≡_, refl}
 use Prim.Native.Nat.{_+_, _*_, _-_, _≤_}
 use native.Mathlib.Omega.{arith}
