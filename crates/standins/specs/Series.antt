@@ -6,6 +6,7 @@ use native.Mathlib.Omega.{arith}
 use lib.Ieee.{Float, nan, binary64, ofBits, neg, lt, ne}
 use Rattle.root.specs.Root.{rootOf}
 use Rattle.standins.specs.Num.{_⊕_, _⊖_, _⊗_, _⊘_, nought, one, whole}
+use Rattle.standins.specs.declared.series.BothSeries.{BothSeries}
 use Rattle.standins.specs.declared.series.SineCosine.{SineCosine}
 
 -- for k = n down to 1, s becomes f k s
@@ -37,7 +38,11 @@ sineOf a = a ⊗ seriesOf sineDivisor (a ⊗ a)
 unfoldable pub cosineOf : Float → Float
 cosineOf a = seriesOf cosineDivisor (a ⊗ a)
 
--- both of a
+-- a, and both series of its square
+abbrev pub bothSeriesOf : Float → BothSeries
+bothSeriesOf a = record { angle = a; sine = seriesOf sineDivisor (a ⊗ a); cosine = seriesOf cosineDivisor (a ⊗ a) }
+
+-- sine and cosine of a
 abbrev pub sineCosineOf : Float → SineCosine
 sineCosineOf a = record { sine = sineOf a; cosine = cosineOf a }
 

@@ -1,13 +1,15 @@
--- `cos` meets its contract: it is one of the two that `sine_cosine` answers.
+-- `cos` meets its contract: by what both series ensure.
 use borrow.Author.Needs.{needs}
+use Rattle.standins.specs.Series.{cosineOf}
 use Rattle.standins.proofs.series.cos.Statement.{statement}
 use Rattle.standins.proofs.series.cos.Tie as tie
 
-sine-cosine-requires : tie.Need-sine-cosine-requires
-sine-cosine-requires c κs = search needs
+both-series-requires : tie.Need-both-series-requires
+both-series-requires c κs = search needs
 
 returns : tie.Need-returns
-returns c = rw (c .sine-cosine .ensures)
+unfolding cosineOf
+returns c = rw (c .both-series .ensures)
 
 pub cos-spec : {M : Type 1} → statement M
-cos-spec = tie.close (tie.spec sine-cosine-requires returns)
+cos-spec = tie.close (tie.spec both-series-requires returns)
