@@ -8,8 +8,8 @@ use native.Mathlib.Nat.{eq-or-lt-of-le, le-refl}
 use native.Mathlib.Numerals.{add-one}
 use native.Mathlib.Omega.{arith}
 use lib.Dec.{eqb, ltb}
-use lib.ListN.{getD, length, drop, drop-of-length-le}
-use lib.Seq.{drop-cons}
+use lib.ListN.{getD, length, take, drop, drop-of-length-le}
+use lib.Seq.{drop-cons, getD-take}
 use Rattle.sheet.specs.Code.{hasJoint}
 use borrow.Author.Tests.{lt-ltb, le-ltb, eq-eqb, ne-eqb, ltb-true, ltb-false}
 
@@ -158,6 +158,15 @@ joint-more cs l = rw add-one
 pub joint-last : (cs : List ℕ) → jointOf cs (length cs) ≡ joints cs
 unfolding joints
 joint-last cs = refl
+
+-- by a part of the list
+pub joint-part : (cs : List ℕ) (n l : ℕ) → l ≤ n → jointOf (take n cs) l ≡ jointOf cs l
+unfolding jointOf
+joint-part cs n zero h = refl
+joint-part cs n (suc l) h =
+    let i : jointOf (take n cs) l ≡ jointOf cs l = joint-part cs n l (omega arith) in
+    let e : getD (take n cs) l 0 ≡ getD cs l 0 = getD-take n cs l 0 (omega arith) in
+    rw (i, e)
 
 pub joint-le : (cs : List ℕ) (l : ℕ) → jointOf cs l ≤ l
 unfolding jointOf

@@ -88,8 +88,8 @@ pub fn next_joint(codes: &[u16], link: usize, joint: usize) -> usize
     counted(reader::read(codes, link), joint)
 }
 
-// The number of a link's joint; at the length of the list, the number of all joints.
-pub fn joint_number(codes: &[u16], link: usize) -> usize
+// The joints of the links before a link.
+fn joints_to(codes: &[u16], link: usize) -> usize
     requires { ⌜ link ≤ length (now codes) ⌝ }
     ensures { λ r. ⌜ r ≡ jointOf (now (codes .entry)) link ⌝ }
 {
@@ -100,4 +100,14 @@ pub fn joint_number(codes: &[u16], link: usize) -> usize
         r = reader::moved(r);
     }
     j
+}
+
+// The number of a link's joint; at the length of the list, the number of all joints. Read from the part before the link, whose end is where
+// the loop ends: so no link is asked for past the end, and the compiler sees it.
+pub fn joint_number(codes: &[u16], link: usize) -> usize
+    requires { ⌜ link ≤ length (now codes) ⌝ }
+    ensures { λ r. ⌜ r ≡ jointOf (now (codes .entry)) link ⌝ }
+{
+    let before = &codes[..link];
+    joints_to(before, before.len())
 }
