@@ -1,7 +1,7 @@
 -- The weighted sum: eight weights, one a kind of objective.
 use mathlib.Core.Path.{_≡_, refl, sym, ap, _∙_}
 use mathlib.Core.List.{List, [], _∷_, map}
-use Prim.Native.Nat.{ℕ, zero, suc, _+_, _≤_}
+use Prim.Native.Nat.{ℕ, zero, suc, _+_, _≤_, _<_}
 use native.Mathlib.Numerals.{add-one}
 use native.Mathlib.Omega.{arith}
 use lib.Ieee.{Float, nan, binary64, ofBits}
@@ -98,3 +98,15 @@ weighted-front ws os vs = go nought os vs
     go s [] vs = refl
     go s (o ∷ os) [] = refl
     go s (o ∷ os) (v ∷ vs) = go (s ⊕ weightOf ws o ⊗ v) os vs
+
+-- values that agree as far as the kinds go have one sum
+pub weighted-same : (ws : List Float) (ks : List ℕ) (vs us : List Float) → ((i : ℕ) → i < length ks → getD vs i nan ≡ getD us i nan) → weightedBy ws ks vs ≡ weightedBy ws ks us
+unfolding weightedBy sumTo termAt
+weighted-same ws ks vs us same = go (length ks) (omega arith)
+  where
+    go : (n : ℕ) → n ≤ length ks → sumTo (termAt ws ks vs) nought n ≡ sumTo (termAt ws ks us) nought n
+    go zero h = refl
+    go (suc n) h =
+        let i : sumTo (termAt ws ks vs) nought n ≡ sumTo (termAt ws ks us) nought n = go n (omega arith) in
+        let e : getD vs n nan ≡ getD us n nan = same n (omega arith) in
+        cc
