@@ -61,9 +61,17 @@ givenOf ns cs task =
       «prev_state2» = prevState2Of (joints cs) task;
     }
 
--- of a function's parameters, as they were at entry
-abbrev pub givenIn : {X Y Z : Type 0} → Both (RefT (List ℕ)) X → Both (RefT (List ℕ)) Y → Both (RefT (List Float)) Z → Given
-givenIn sizes codes task = givenOf (now (sizes .entry)) (now (codes .entry)) (now (task .entry))
+-- ---- of a function's parameters
+-- a list that a function is lent, as a contract has its name: the list at entry, and X, what is seen of it at exit
+abbrev pub LentList : Type 0 → Type 0 → Type 0
+LentList A X = Both (RefT (List A)) X
+
+-- what it held at entry
+abbrev pub lent : {A X : Type 0} → LentList A X → List A
+lent xs = now (xs .entry)
+
+abbrev pub givenIn : {X Y Z : Type 0} → LentList ℕ X → LentList ℕ Y → LentList Float Z → Given
+givenIn sizes codes task = givenOf (lent sizes) (lent codes) (lent task)
 
 -- ---- laws
 module _ (at n : ℕ) (task : List Float) where
