@@ -39,6 +39,13 @@ pub record Known (ns cs : List ℕ) (task gs x : List Float) (ks : List ℕ) (f 
   pub poses : 7 * length cs ≤ length ps
   pub again : length ks ≤ length hs
 
+-- the objectives' kinds, n of them, in front of a list that is long enough for any sheet's
+pub record KindsListed (ns cs list : List ℕ) (n : ℕ) : Type 0 where
+  pub front : take n list ≡ kindsOf ns cs
+  pub many : n ≡ length (take n list)
+  pub few : length (take n list) ≤ 131
+  pub within : n ≤ length list
+
 -- ---- laws: another block of as many joints
 pub ready-other : (ns cs : List ℕ) (task gs x y : List Float) → length y ≡ length x → Ready ns cs task gs x → Ready ns cs task gs y
 ready-other ns cs task gs x y e r =
@@ -58,9 +65,12 @@ module _ (ns cs : List ℕ) (task gs x : List Float) (r : Ready ns cs task gs x)
   pub kinds-most : length (kindsOf ns cs) ≤ 131
   kinds-most = omega (arith, kinds-length ns cs, objectives-few ns cs (r .paired .counted) (r .two))
 
-  -- ---- the list of kinds in front of a longer one
-  pub kinds-front : (rest list : List ℕ) (n : ℕ) → n ≡ length (objectives (chainLengths ns cs)) → list ≡ splice rest 0 (kindsOf ns cs) → take n list ≡ kindsOf ns cs
-  kinds-front rest list n e h = ap (take n) h ∙ part-splice rest 0 n (kindsOf ns cs) (omega arith) (kinds-length ns cs ∙ sym e)
+  -- ---- as `relaxed_ik` leaves the list
+  pub kinds-listed : (rest list : List ℕ) (n : ℕ) → length list ≡ 131 → n ≡ length (objectives (chainLengths ns cs)) → list ≡ splice rest 0 (kindsOf ns cs) → KindsListed ns cs list n
+  kinds-listed rest list n long e h =
+      let f : take n list ≡ kindsOf ns cs = ap (take n) h ∙ part-splice rest 0 n (kindsOf ns cs) (omega arith) (kinds-length ns cs ∙ sym e) in
+      let m : length (take n list) ≡ n = ap length f ∙ kinds-length ns cs ∙ sym e in
+      record { front = f; many = sym m; few = omega (arith, ap length f, kinds-most); within = omega (arith, ap length f, kinds-most) }
 
   -- ---- poses that stand in one list, all of them walked again
   pub lent-whole : (poses : List Float) → 7 * length cs ≤ length poses → Lent ns cs task x poses poses 0 (length cs)

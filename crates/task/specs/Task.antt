@@ -1,7 +1,7 @@
 -- What travels together: one list of floats, each part at a fixed place. In use of a part is as much as there are chains or joints.
-use mathlib.Core.Path.{_≡_, refl}
+use mathlib.Core.Path.{_≡_}
 use mathlib.Core.List.{List}
-use Prim.Native.Nat.{ℕ, _+_, _-_, _*_, _≤_, _<_}
+use Prim.Native.Nat.{ℕ, _+_, _-_, _*_, _≤_}
 use native.Mathlib.Omega.{arith}
 use denote.Ref.{RefT, now}
 use denote.Triple.Both.{Both}

@@ -1,12 +1,11 @@
 -- `gradient_on` meets its contract: the kinds, value and losses first, then the slopes.
-use mathlib.Core.Path.{_≡_, sym, ap, _∙_}
-use Prim.Native.Nat.{_≤_}
+use mathlib.Core.Path.{ap, _∙_}
 use native.Mathlib.Omega.{arith}
 use denote.Ref.{now}
-use lib.ListN.{length, take}
+use lib.ListN.{length}
 use Rattle.task.specs.Task.{Given, givenOf}
-use Rattle.objective_master.specs.Kinds.{kindsOf, kinds-length}
-use Rattle.gradient.specs.Ready.{kinds-most, kinds-front}
+use Rattle.objective_master.specs.Kinds.{kinds-length}
+use Rattle.gradient.specs.Ready.{KindsListed, kinds-most, kinds-listed}
 use Rattle.gradient.specs.Made.{losses-front}
 use borrow.Author.Needs.{needs}
 use Rattle.gradient.proofs.gradient.gradient_on.Statement.{statement}
@@ -16,33 +15,12 @@ use Rattle.gradient.proofs.value.value_of.Reads as value-of-reads
 use Rattle.objective_master.proofs.relaxed_ik.relaxed_ik.Reads as relaxed-ik-reads
 
 -- the kinds stand in front of their list
-listed : (c : tie.After-relaxed-ik) → take (c .relaxed-ik .result) (c .relaxed-ik .last .1 .1 .0) ≡ kindsOf (now (c .before .before .before .before .before .before .before .before .args .sizes)) (now (c .before .before .before .before .before .before .before .before .args .codes))
+listed : (c : tie.After-relaxed-ik) → KindsListed (now (c .before .before .before .before .before .before .before .before .args .sizes)) (now (c .before .before .before .before .before .before .before .before .args .codes)) (c .relaxed-ik .last .1 .1 .0) (c .relaxed-ik .result)
 listed c =
     let s = c .before .before .before .before .before .before .before .before in
     let a = s .args in
-    let ns = now (a .sizes) in
-    let cs = now (a .codes) in
-    let T = now (a .task) in
-    let gs = now (a .floats) in
-    let x = now (a .scratch) in
-    kinds-front ns cs T gs x (s .pre .0) _ (c .relaxed-ik .last .1 .1 .0) (c .relaxed-ik .result) (c .relaxed-ik .ensures .0) (c .relaxed-ik .ensures .1)
-
-counted : (c : tie.After-relaxed-ik) → c .relaxed-ik .result ≡ length (take (c .relaxed-ik .result) (c .relaxed-ik .last .1 .1 .0))
-counted c = c .relaxed-ik .ensures .0 ∙ sym (ap length (listed c) ∙ kinds-length (now (c .before .before .before .before .before .before .before .before .args .sizes)) (now (c .before .before .before .before .before .before .before .before .args .codes)))
-
-few : (c : tie.After-relaxed-ik) → length (take (c .relaxed-ik .result) (c .relaxed-ik .last .1 .1 .0)) ≤ 131
-few c =
-    let s = c .before .before .before .before .before .before .before .before in
-    let a = s .args in
-    let ns = now (a .sizes) in
-    let cs = now (a .codes) in
-    let T = now (a .task) in
-    let gs = now (a .floats) in
-    let x = now (a .scratch) in
-    omega (arith, ap length (listed c), kinds-most ns cs T gs x (s .pre .0))
-
-within : (c : tie.After-relaxed-ik) → c .relaxed-ik .result ≤ length (c .relaxed-ik .last .1 .1 .0)
-within c = omega (arith, counted c, few c, c .relaxed-ik .kept .1 .1 .0)
+    let k = c .relaxed-ik in
+    kinds-listed (now (a .sizes)) (now (a .codes)) (now (a .task)) (now (a .floats)) (now (a .scratch)) (s .pre .0) _ _ _ (k .kept .1 .1 .0) (k .ensures .0) (k .ensures .1)
 
 slice-aggregate-relaxed-ik : tie.Need-slice-aggregate-relaxed-ik
 slice-aggregate-relaxed-ik c = search needs
@@ -60,10 +38,10 @@ relaxed-ik-requires c κs =
     ((r .paired .counted, r .sheet .chains), omega (arith, kinds-most ns cs T gs x r, kinds-length ns cs))
 
 array-share-prefix-list : tie.Need-array-share-prefix-list
-array-share-prefix-list c = within (c .before .before)
+array-share-prefix-list c = listed (c .before .before) .within
 
 slice-aggregate-value-of : tie.Need-slice-aggregate-value-of
-slice-aggregate-value-of c = counted (c .before .before .before)
+slice-aggregate-value-of c = listed (c .before .before .before) .many
 
 slice-aggregate-value-of-2 : tie.Need-slice-aggregate-value-of-2
 slice-aggregate-value-of-2 c = search needs
@@ -75,13 +53,13 @@ value-of-requires : tie.Need-value-of-requires
 value-of-requires c κs =
     let k = c .before .before .before .before .before in
     let r = c .before .before .before .before .before .before .before .before .before .before .before .before .before .pre .0 in
-    ((r, listed k), (omega (arith, r .sheet .links), omega (arith, few k)))
+    ((r, listed k .front), (omega (arith, r .sheet .links), omega (arith, listed k .few)))
 
 array-share-prefix-list-2 : tie.Need-array-share-prefix-list-2
-array-share-prefix-list-2 c = within (c .before .before .before .before .before .before .before .before .before)
+array-share-prefix-list-2 c = listed (c .before .before .before .before .before .before .before .before .before) .within
 
 slice-aggregate-put-gradient : tie.Need-slice-aggregate-put-gradient
-slice-aggregate-put-gradient c = counted (c .before .before .before .before .before .before .before .before .before .before)
+slice-aggregate-put-gradient c = listed (c .before .before .before .before .before .before .before .before .before .before) .many
 
 slice-aggregate-put-gradient-2 : tie.Need-slice-aggregate-put-gradient-2
 slice-aggregate-put-gradient-2 c = search needs
@@ -106,15 +84,15 @@ put-gradient-requires c κs =
     let x = now (a .scratch) in
     let G : Given = givenOf ns cs T in
     let r = s .pre .0 in
-    let m = ap length (listed k) ∙ kinds-length ns cs in (
+    let m = ap length (listed k .front) ∙ kinds-length ns cs in (
       (r, s .pre .1),
       record {
-        kinds = listed k;
+        kinds = listed k .front;
         value = v .ensures .0;
         losses = losses-front G gs x _ (v .last .1 .1 .1 .1 .1 .1 .1 .0) _ m (v .ensures .1);
-        first = omega (arith, few k, v .kept .1 .1 .1 .1 .1 .1 .1 .0);
+        first = omega (arith, listed k .few, v .kept .1 .1 .1 .1 .1 .1 .1 .0);
         poses = omega (arith, r .sheet .links, v .kept .1 .1 .1 .1 .1 .1 .0);
-        again = omega (arith, few k);
+        again = omega (arith, listed k .few);
       },
     )
 

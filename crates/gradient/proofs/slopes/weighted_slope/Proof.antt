@@ -1,6 +1,5 @@
 -- `weighted_slope` meets its contract: the slopes, then their weighted sum.
 use mathlib.Core.Path.{_∙_}
-use native.Mathlib.Omega.{arith}
 use denote.Ref.{now}
 use Rattle.gradient.specs.Slopes.{slopeBetween, slopes-sum}
 use borrow.Author.Needs.{needs}

@@ -1,7 +1,7 @@
 -- `gradient` meets its contract: the kinds, the first walk and its losses, then every joint's turn.
-use mathlib.Core.Path.{_≡_, sym, ap, _∙_}
+use mathlib.Core.Path.{_≡_, ap, _∙_}
 use mathlib.Core.List.{List}
-use Prim.Native.Nat.{ℕ, _*_, _≤_}
+use Prim.Native.Nat.{ℕ, _*_}
 use native.Mathlib.Omega.{arith}
 use denote.Ref.{now}
 use lib.Ieee.{Float}
@@ -11,10 +11,10 @@ use Rattle.lists.specs.Splice.{splice, splice-splice, part-splice}
 use Rattle.lists.specs.Runs.{runs, length-runs}
 use Rattle.task.specs.Task.{Given, givenOf}
 use Rattle.spacetime.specs.Walk.{framesOf}
-use Rattle.objective_master.specs.Kinds.{kindsOf, kinds-length}
+use Rattle.objective_master.specs.Kinds.{kinds-length}
 use Rattle.objective_master.specs.Weights.{weightedBy}
 use Rattle.gradient.specs.Gradient.{lossesAt}
-use Rattle.gradient.specs.Ready.{kinds-most, kinds-front, lent-whole, standing-whole, losses-walked}
+use Rattle.gradient.specs.Ready.{KindsListed, kinds-most, kinds-listed, lent-whole, standing-whole, losses-walked}
 use Rattle.gradient.specs.Made.{losses-front, value-made}
 use Rattle.one_block.specs.Record.{againOf, recordOf, jointEntry, linkEntry, poseEntry, recordJoints, recordLinks, recordPoses}
 use Rattle.one_block.specs.Laws.{joint-entry, link-entry, pose-entry, frames-length, entries-over, first-poses}
@@ -36,21 +36,11 @@ abbrev L : tie.After-put-losses → tie.Start
 L c = S (c .before .before .before .before .before .before .before .before .before .before .before .before .before .before .before .before)
 
 -- the kinds stand in front of their list
-listed : (c : tie.After-relaxed-ik) → take (c .relaxed-ik .result) (c .relaxed-ik .last .1 .1 .0) ≡ kindsOf (now (S c .args .sizes)) (now (S c .args .codes))
+listed : (c : tie.After-relaxed-ik) → KindsListed (now (S c .args .sizes)) (now (S c .args .codes)) (c .relaxed-ik .last .1 .1 .0) (c .relaxed-ik .result)
 listed c =
     let a = S c .args in
-    kinds-front (now (a .sizes)) (now (a .codes)) (now (a .task)) (now (a .floats)) (now (a .block)) (S c .pre .0 .0) _ (c .relaxed-ik .last .1 .1 .0) (c .relaxed-ik .result) (c .relaxed-ik .ensures .0) (c .relaxed-ik .ensures .1)
-
-counted : (c : tie.After-relaxed-ik) → c .relaxed-ik .result ≡ length (take (c .relaxed-ik .result) (c .relaxed-ik .last .1 .1 .0))
-counted c = c .relaxed-ik .ensures .0 ∙ sym (ap length (listed c) ∙ kinds-length (now (S c .args .sizes)) (now (S c .args .codes)))
-
-few : (c : tie.After-relaxed-ik) → length (take (c .relaxed-ik .result) (c .relaxed-ik .last .1 .1 .0)) ≤ 131
-few c =
-    let a = S c .args in
-    omega (arith, ap length (listed c), kinds-most (now (a .sizes)) (now (a .codes)) (now (a .task)) (now (a .floats)) (now (a .block)) (S c .pre .0 .0))
-
-within : (c : tie.After-relaxed-ik) → c .relaxed-ik .result ≤ length (c .relaxed-ik .last .1 .1 .0)
-within c = omega (arith, counted c, few c, c .relaxed-ik .kept .1 .1 .0)
+    let k = c .relaxed-ik in
+    kinds-listed (now (a .sizes)) (now (a .codes)) (now (a .task)) (now (a .floats)) (now (a .block)) (S c .pre .0 .0) _ _ _ (k .kept .1 .1 .0) (k .ensures .0) (k .ensures .1)
 
 -- the first losses
 abbrev losses₀ : tie.After-put-losses → List Float
@@ -110,10 +100,10 @@ put-losses-requires c κs =
     (lent-whole ns cs T gs x r (w .last .1 .1 .1 .1 .1 .1 .0) (omega (arith, s .pre .1, entries-over ns cs, w .kept .1 .1 .1 .1 .1 .1 .0)), standing-whole ns cs T gs x r _ _ (kinds-most ns cs T gs x r))
 
 array-share-prefix-list : tie.Need-array-share-prefix-list
-array-share-prefix-list c = within (c .before .before .before .before .before .before .before .before .before .before .before .before .before .before .before .before .before .before)
+array-share-prefix-list c = listed (c .before .before .before .before .before .before .before .before .before .before .before .before .before .before .before .before .before .before) .within
 
 slice-aggregate-every-joint : tie.Need-slice-aggregate-every-joint
-slice-aggregate-every-joint c = counted (c .before .before .before .before .before .before .before .before .before .before .before .before .before .before .before .before .before .before .before)
+slice-aggregate-every-joint c = listed (c .before .before .before .before .before .before .before .before .before .before .before .before .before .before .before .before .before .before .before) .many
 
 slice-aggregate-every-joint-2 : tie.Need-slice-aggregate-every-joint-2
 slice-aggregate-every-joint-2 c = search needs
@@ -141,9 +131,9 @@ every-joint-requires c κs =
         (
           ap (take (7 * n)) (w .ensures .1 .1) ∙ part-splice (now (a .frames)) 0 (7 * n) (framesOf ns cs gs x) (omega arith) (frames-length ns cs gs x),
           record {
-            kinds = listed k;
-            losses = losses-front G gs x (replicate 131 nought) (losses₀ p) _ (ap length (listed k) ∙ kinds-length ns cs) (made p);
-            losses-room = omega (arith, few k, p .put-losses .kept .1 .1 .1 .1 .1 .1 .1 .0);
+            kinds = listed k .front;
+            losses = losses-front G gs x (replicate 131 nought) (losses₀ p) _ (ap length (listed k .front) ∙ kinds-length ns cs) (made p);
+            losses-room = omega (arith, listed k .few, p .put-losses .kept .1 .1 .1 .1 .1 .1 .1 .0);
             slopes-room = s .pre .0 .1;
           },
         ),
@@ -154,16 +144,16 @@ weights-requires : tie.Need-weights-requires
 weights-requires c κs = c .before .before .before .before .before .before .before .before .before .before .before .before .before .before .before .before .before .before .before .before .before .before .before .before .before .before .before .before .before .before .before .before .before .before .before .before .before .before .before .before .before .before .before .before .before .before .pre .0 .0 .whole
 
 array-share-prefix-list-2 : tie.Need-array-share-prefix-list-2
-array-share-prefix-list-2 c = within (c .before .before .before .before .before .before .before .before .before .before .before .before .before .before .before .before .before .before .before .before .before .before .before .before .before .before .before .before .before .before .before .before .before .before .before .before)
+array-share-prefix-list-2 c = listed (c .before .before .before .before .before .before .before .before .before .before .before .before .before .before .before .before .before .before .before .before .before .before .before .before .before .before .before .before .before .before .before .before .before .before .before .before) .within
 
 slice-aggregate-weighted-sum : tie.Need-slice-aggregate-weighted-sum
-slice-aggregate-weighted-sum c = counted (c .before .before .before .before .before .before .before .before .before .before .before .before .before .before .before .before .before .before .before .before .before .before .before .before .before .before .before .before .before .before .before .before .before .before .before .before .before)
+slice-aggregate-weighted-sum c = listed (c .before .before .before .before .before .before .before .before .before .before .before .before .before .before .before .before .before .before .before .before .before .before .before .before .before .before .before .before .before .before .before .before .before .before .before .before .before) .many
 
 slice-aggregate-weighted-sum-2 : tie.Need-slice-aggregate-weighted-sum-2
 slice-aggregate-weighted-sum-2 c = search needs
 
 weighted-sum-requires : tie.Need-weighted-sum-requires
-weighted-sum-requires c κs = omega (arith, few (c .before .before .before .before .before .before .before .before .before .before .before .before .before .before .before .before .before .before .before .before .before .before .before .before .before .before .before .before .before .before .before .before .before .before .before .before .before .before), c .before .before .before .before .before .before .before .before .before .before .before .before .before .before .before .before .before .before .before .before .before .before .put-losses .kept .1 .1 .1 .1 .1 .1 .1 .0)
+weighted-sum-requires c κs = omega (arith, listed (c .before .before .before .before .before .before .before .before .before .before .before .before .before .before .before .before .before .before .before .before .before .before .before .before .before .before .before .before .before .before .before .before .before .before .before .before .before .before) .few, c .before .before .before .before .before .before .before .before .before .before .before .before .before .before .before .before .before .before .before .before .before .before .put-losses .kept .1 .1 .1 .1 .1 .1 .1 .0)
 
 same-length : tie.Need-same-length
 same-length c = search needs
@@ -207,7 +197,7 @@ returns c =
     let ll = length-runs (linkEntry 65535) 1 (link-entry 65535) 0 n in
     let lp = length-runs (poseEntry ns cs gs x 65535) 7 (pose-entry ns cs gs x 65535) 0 n in (
       c .weighted-sum .ensures ∙ ap (λ (ws : List Float). weightedBy ws ks (losses₀ p)) (c .before .before .before .weights .ensures .0)
-          ∙ value-made G gs x ks (listed k) (replicate 131 nought) (losses₀ p) (few k) (made p),
+          ∙ value-made G gs x ks (listed k .front) (replicate 131 nought) (losses₀ p) (listed k .few) (made p),
       (
         t .ensures .1 .0,
         (
