@@ -5,8 +5,7 @@
  * All lists are static and of fixed length; nothing is allocated. They are lent as they lie in memory, so this program is for a little-endian
  * processor with IEEE 754 doubles, and says so if it is on another.
  *
- * -DGUARDED puts guard bytes around every list and looks at them, and at the lists that are only read, after every call (tools/controller_test).
- * -DNO_GRADIENT is for a library without the gradient: the arm then goes to a taught block in equal steps. */
+ * -DGUARDED puts guard bytes around every list and looks at them, and at the lists that are only read, after every call (tools/controller_test). */
 #include "relaxed_ik.h"
 
 #include <stdio.h>
@@ -31,21 +30,15 @@ enum {
     LIST(double, limits, JOINTS * RELAXED_IK_LIMIT_FLOATS)  \
     LIST(double, goals, CHAINS * RELAXED_IK_GOAL_FLOATS)    \
     LIST(double, joints, JOINTS)
-#ifdef NO_GRADIENT
-#define GRADIENT_LISTS(LIST)
-#else
-#define GRADIENT_LISTS(LIST)                                \
-    LIST(double, slopes, JOINTS)                            \
-    LIST(uint16_t, record_joints, RECORD)                   \
-    LIST(uint16_t, record_links, RECORD)                    \
-    LIST(double, record_poses, RECORD * RELAXED_IK_POSE_FLOATS)
-#endif
 #define WRITTEN_LISTS(LIST)                                 \
     LIST(double, history, JOINTS * RELAXED_IK_HISTORY_BLOCKS) \
     LIST(double, new_history, JOINTS * RELAXED_IK_HISTORY_BLOCKS) \
     LIST(double, ends, CHAINS * RELAXED_IK_POSE_FLOATS)     \
     LIST(double, value, 1)                                  \
-    GRADIENT_LISTS(LIST)
+    LIST(double, slopes, JOINTS)                            \
+    LIST(uint16_t, record_joints, RECORD)                   \
+    LIST(uint16_t, record_links, RECORD)                    \
+    LIST(double, record_poses, RECORD * RELAXED_IK_POSE_FLOATS)
 
 #ifdef GUARDED
 #define GUARD 64
@@ -201,7 +194,6 @@ static int update(void) {
     return 1;
 }
 
-#ifndef NO_GRADIENT
 static double within(double v, double low, double high) {
     return v < low ? low : v > high ? high : v;
 }
@@ -230,17 +222,6 @@ static int rounds(void) {
         (unsigned)record_joints.at[RECORD - 1]);
     return 1;
 }
-#else
-static int rounds(void) {
-    int round, i;
-    puts("no gradient in this library: to the taught block in equal steps");
-    for (round = 1; round <= ROUNDS; round++) {
-        for (i = 0; i < JOINTS; i++) joints.at[i] = start[i] + (taught[i] - start[i]) * round / ROUNDS;
-        if (!update()) return 0;
-    }
-    return 1;
-}
-#endif
 
 int main(void) {
     double good;

@@ -5,12 +5,12 @@ use lib.Ieee.{Float}
 use lib.ListN.{length, take}
 use Rattle.lists.specs.Splice.{splice}
 use Rattle.geometry.specs.declared.pose.Pose.{Pose}
-use Rattle.sheet.specs.Chain.{joints}
 use Rattle.spacetime.specs.Walk.{poseOf}
 use Rattle.spacetime.specs.Frames.{positionsOf, rotationsOf, endsOf}
 use Rattle.manipulability.specs.Jacobian.{manipulabilityOf}
+use Rattle.refusals.specs.Lengths.{historyLength, valueLength}
 use Rattle.refusals.specs.Lowest.{firstOf}
-use Rattle.refusals.specs.Refusal.{chainsOf, linksOf, loadRefusal, blockRefusal, goalsRefusal, roomRefusal}
+use Rattle.refusals.specs.Refusal.{chainsOf, linksOf, loadRefusal, blockRefusal, historyRefusal, goalsRefusal, roomRefusal}
 use Rattle.calls.specs.Arms.{ifTaken}
 use Rattle.calls.specs.Frames.{framesRefusal, poseRefusal}
 use Rattle.lent_bytes.specs.Lent.{bytesOf}
@@ -36,16 +36,16 @@ poseNumber s x ends = firstOf (loadNumber s) (poseRefusal (linksOf (s .sizes)) (
 unfoldable pub updateNumber : SheetLists → List Float → List Float → ℕ → ℕ
 updateNumber s history x room =
     firstOf (loadNumber s)
-    (firstOf (firstOf (blockRefusal (joints (s .codes)) x) (blockRefusal (4 * joints (s .codes)) history)) (roomRefusal (4 * joints (s .codes)) room))
+    (firstOf (firstOf (blockRefusal (s .codes) x) (historyRefusal (s .codes) history)) (roomRefusal (historyLength (s .codes)) room))
 
 -- a reset to block x: then 7, then 9 for either output
 unfoldable pub resetNumber : SheetLists → List Float → ℕ → ℕ → ℕ
 resetNumber s x history ends =
-    firstOf (loadNumber s) (firstOf (poseRefusal (linksOf (s .sizes)) (s .codes) x ends) (roomRefusal (4 * joints (s .codes)) history))
+    firstOf (loadNumber s) (firstOf (poseRefusal (linksOf (s .sizes)) (s .codes) x ends) (roomRefusal (historyLength (s .codes)) history))
 
 -- manipulability at block x: then 7, then 9 for an output without room for one float
 unfoldable pub manipulabilityNumber : SheetLists → List Float → ℕ → ℕ
-manipulabilityNumber s x room = firstOf (loadNumber s) (firstOf (blockRefusal (joints (s .codes)) x) (roomRefusal 1 room))
+manipulabilityNumber s x room = firstOf (loadNumber s) (firstOf (blockRefusal (s .codes) x) (roomRefusal valueLength room))
 
 -- ---- what they write, in floats
 -- the pose after each link in the walk of block x

@@ -1,14 +1,14 @@
 -- Each byte call gets the lowest number of a condition that holds, and is accepted where none holds.
 use mathlib.Core.Path.{_≡_, refl, sym, ap, _∙_}
 use mathlib.Core.List.{List, [], _∷_, _++_}
-use Prim.Native.Nat.{ℕ, zero, suc, _*_}
+use Prim.Native.Nat.{ℕ, zero, suc}
 use native.Mathlib.Omega.{arith}
 use lib.Ieee.{Float}
-use Rattle.sheet.specs.Chain.{joints}
+use Rattle.refusals.specs.Lengths.{endsLength, historyLength, valueLength}
 use Rattle.refusals.specs.Lowest.{firstOf, first-zero, first-some}
-use Rattle.refusals.specs.Refusal.{chainsOf, linksOf, blockRefusal, goalsRefusal, roomRefusal}
-use Rattle.refusals.specs.Rows.{Row, firstRow, upFrom, IsLowest, lowest-row, loadRows, blockRow, goalsRow, roomRow, block-row, goals-row, room-row, load-row, load-lowest, first-last}
-use Rattle.calls.specs.Frames.{poseRefusal, endsNeed}
+use Rattle.refusals.specs.Refusal.{chainsOf, linksOf, blockRefusal, historyRefusal, roomRefusal}
+use Rattle.refusals.specs.Rows.{Row, firstRow, upFrom, IsLowest, lowest-row, loadRows, blockRow, historyRow, goalsRow, roomRow, block-row, history-row, goals-row, room-row, load-row, load-lowest, alone}
+use Rattle.calls.specs.Frames.{poseRefusal}
 use Rattle.calls.specs.Rows.{framesRows, poseRows, room-alone, frames-rows, pose-rows}
 use Rattle.lent_bytes.specs.SheetLists.{SheetLists}
 use Rattle.arm_bytes.specs.ArmCalls.{loadNumber, setGoalsNumber, framesNumber, poseNumber, updateNumber, resetNumber, manipulabilityNumber}
@@ -20,8 +20,12 @@ first-assoc (suc a) b c =
     ∙ sym (first-some (suc a) (firstOf b c) (λ z. omega arith))
 
 -- a block's number before others
-pub block-then : (n : ℕ) (x : List Float) (k : ℕ) (rs : List Row) → k ≡ firstRow rs → firstOf (blockRefusal n x) k ≡ firstRow (blockRow n x ∷ rs)
-block-then n x k rs e = ap (firstOf (blockRefusal n x)) e ∙ block-row n x rs
+pub block-then : (cs : List ℕ) (x : List Float) (k : ℕ) (rs : List Row) → k ≡ firstRow rs → firstOf (blockRefusal cs x) k ≡ firstRow (blockRow cs x ∷ rs)
+block-then cs x k rs e = ap (firstOf (blockRefusal cs x)) e ∙ block-row cs x rs
+
+-- and a history's
+pub history-then : (cs : List ℕ) (h : List Float) (k : ℕ) (rs : List Row) → k ≡ firstRow rs → firstOf (historyRefusal cs h) k ≡ firstRow (historyRow cs h ∷ rs)
+history-then cs h k rs e = ap (firstOf (historyRefusal cs h)) e ∙ history-row cs h rs
 
 module _ (s : SheetLists) where
   -- the sheet's conditions, 1 to 6
@@ -39,7 +43,7 @@ module _ (s : SheetLists) where
   unfolding setGoalsNumber upFrom
   set-goals-number goals =
       lowest-row _ _ refl
-      (after-load _ _ (first-last (goalsRefusal (chainsOf (s .sizes)) goals) ∙ goals-row (chainsOf (s .sizes)) goals []))
+      (after-load _ _ (alone _ _ (goals-row (chainsOf (s .sizes)) goals [])))
 
   pub frames-number-lowest : (x : List Float) (p r : ℕ) → IsLowest (sheetRows ++ framesRows (linksOf (s .sizes)) (s .codes) x p r) (framesNumber s x p r)
   unfolding framesNumber upFrom
@@ -51,30 +55,31 @@ module _ (s : SheetLists) where
 
   pub update-number-lowest : (history x : List Float) (n : ℕ)
       → IsLowest
-      (sheetRows ++ (blockRow (joints (s .codes)) x ∷ blockRow (4 * joints (s .codes)) history ∷ roomRow (4 * joints (s .codes)) n ∷ []))
+      (sheetRows ++ (blockRow (s .codes) x ∷ historyRow (s .codes) history ∷ roomRow (historyLength (s .codes)) n ∷ []))
       (updateNumber s history x n)
   unfolding updateNumber upFrom
   update-number-lowest history x n =
-      let k = joints (s .codes) in
+      let cs = s .codes in
       lowest-row _ _ refl
       (after-load _ _
-      (first-assoc (blockRefusal k x) (blockRefusal (4 * k) history) (roomRefusal (4 * k) n)
-      ∙ block-then k x _ _ (block-then (4 * k) history _ _ (room-alone (4 * k) n))))
+      (first-assoc (blockRefusal cs x) (historyRefusal cs history) (roomRefusal (historyLength cs) n)
+      ∙ block-then cs x _ _ (history-then cs history _ _ (room-alone (historyLength cs) n))))
 
   pub reset-number-lowest : (x : List Float) (h n : ℕ)
       → IsLowest
-      (sheetRows ++ (blockRow (joints (s .codes)) x ∷ roomRow (endsNeed (linksOf (s .sizes))) n ∷ roomRow (4 * joints (s .codes)) h ∷ []))
+      (sheetRows ++ (blockRow (s .codes) x ∷ roomRow (endsLength (linksOf (s .sizes))) n ∷ roomRow (historyLength (s .codes)) h ∷ []))
       (resetNumber s x h n)
   unfolding resetNumber poseRefusal upFrom
   reset-number-lowest x h n =
-      let k = joints (s .codes) in
-      let ends = endsNeed (linksOf (s .sizes)) in
+      let cs = s .codes in
+      let all = historyLength cs in
+      let ends = endsLength (linksOf (s .sizes)) in
       lowest-row _ _ refl
       (after-load _ _
-      (first-assoc (blockRefusal k x) (roomRefusal ends n) (roomRefusal (4 * k) h)
-      ∙ block-then k x _ _ (ap (firstOf (roomRefusal ends n)) (room-alone (4 * k) h) ∙ room-row ends n (roomRow (4 * k) h ∷ []))))
+      (first-assoc (blockRefusal cs x) (roomRefusal ends n) (roomRefusal all h)
+      ∙ block-then cs x _ _ (ap (firstOf (roomRefusal ends n)) (room-alone all h) ∙ room-row ends n (roomRow all h ∷ []))))
 
   pub manipulability-number-lowest : (x : List Float) (n : ℕ)
-      → IsLowest (sheetRows ++ (blockRow (joints (s .codes)) x ∷ roomRow 1 n ∷ [])) (manipulabilityNumber s x n)
+      → IsLowest (sheetRows ++ (blockRow (s .codes) x ∷ roomRow valueLength n ∷ [])) (manipulabilityNumber s x n)
   unfolding manipulabilityNumber upFrom
-  manipulability-number-lowest x n = lowest-row _ _ refl (after-load _ _ (block-then (joints (s .codes)) x _ _ (room-alone 1 n)))
+  manipulability-number-lowest x n = lowest-row _ _ refl (after-load _ _ (block-then (s .codes) x _ _ (room-alone valueLength n)))

@@ -13,35 +13,14 @@ use borrow.Author.Tests.{ne-eqb, lt-ltb}
 use Rattle.lists.specs.Runs.{runs}
 use Rattle.lists.specs.Listed.{listed}
 use Rattle.sheet.specs.Chain.{total, chainStart, jointOf, joints, joint-mono, joint-last, chain-start-mono, chain-start-total}
+use Rattle.refusals.specs.Lengths.{endsLength, historyLength, positions-sum, rotations-sum}
 use Rattle.refusals.specs.Lowest.{lowestFrom, lowest, firstOf, first-zero, first-some}
-use Rattle.refusals.specs.Refusal.{chainsOf, linksOf, badSizes, badLengths, badLimits, badFloats, badBlock, badGoals, chainJoints, shapeRefusal, loadRefusal, blockRefusal, goalsRefusal, roomRefusal}
+use Rattle.refusals.specs.Refusal.{chainsOf, linksOf, badSizes, badLengths, badLimits, badFloats, badBlock, badHistory, badGoals, chainJoints, shapeRefusal, loadRefusal, blockRefusal, historyRefusal, goalsRefusal, roomRefusal}
 use Rattle.refusals.specs.Passed.{Sizes, Shape, sizes-passed, load-first, load-passed, shape-passed}
-use Rattle.calls.specs.Frames.{framesRefusal, poseRefusal, positionsNeed, rotationsNeed, endsNeed}
-use Rattle.lent_bytes.specs.Lent.{countIn, numbersIn, floatsIn, roomIn}
+use Rattle.calls.specs.Frames.{framesRefusal, poseRefusal}
+use Rattle.lent_bytes.specs.Lent.{Misfit, numbersIn, floatsIn, roomIn, no-numbers, no-floats}
 use Rattle.lent_bytes.specs.SheetLists.{SheetLists, sheetWith}
 use Rattle.arm_bytes.specs.ArmCalls.{loadNumber, setGoalsNumber, framesNumber, poseNumber, updateNumber, resetNumber, manipulabilityNumber}
-
--- n bytes are no whole count of elements of w bytes, or more than cap of them
-abbrev pub Misfit : ℕ → ℕ → ℕ → Type 0
-Misfit w cap n = (n % w ≡ 0 → ⊥) ⊎ (cap < n / w)
-
--- such a list counts as empty
-none-counted : (w cap n : ℕ) → Misfit w cap n → countIn w cap n ≡ 0
-unfolding countIn
-none-counted w cap n m =
-    ⊎-elim (λ (h : n % w ≡ 0 → ⊥). rw (ne-eqb (n % w) 0 h)) (λ (l : cap < n / w). rw (lt-ltb cap (n / w) l) (either (eqb (n % w) 0))) m
-  where
-    either : (b : Bool) → _≡_ {A = ℕ} (cond b 0 0) 0
-    either true = refl
-    either false = refl
-
-no-numbers : (cap : ℕ) (b : List ℕ) → Misfit 2 cap (length b) → numbersIn cap b ≡ []
-unfolding numbersIn listed runs
-no-numbers cap b m = rw (none-counted 2 cap (length b) m)
-
-pub no-floats : (cap : ℕ) (b : List ℕ) → Misfit 8 cap (length b) → floatsIn cap b ≡ []
-unfolding floatsIn listed runs
-no-floats cap b m = rw (none-counted 8 cap (length b) m)
 
 -- ---- the sheet's lists
 pub ragged-sizes : (b codes : List ℕ) (floats limits : List Float) → Misfit 2 5 (length b) → loadNumber (sheetWith (numbersIn 5 b) codes floats limits) ≡ 1
@@ -108,9 +87,13 @@ ragged-limits sizes codes floats b e m =
     ∙ first-some 5 _ (λ z. omega arith))
 
 -- ---- the lists beside it, on a sheet that is taken
-pub no-block : (n : ℕ) → 1 ≤ n → blockRefusal n [] ≡ 7
+pub no-block : (cs : List ℕ) → 1 ≤ joints cs → blockRefusal cs [] ≡ 7
 unfolding blockRefusal badBlock
-no-block n h = rw (ne-eqb 0 n (λ z. omega arith))
+no-block cs h = rw (ne-eqb 0 (joints cs) (λ z. omega arith))
+
+pub no-history : (cs : List ℕ) → 1 ≤ joints cs → historyRefusal cs [] ≡ 7
+unfolding historyRefusal badHistory
+no-history cs h = rw (ne-eqb 0 (4 * joints cs) (λ z. omega arith))
 
 pub no-goals : (chains : ℕ) → 1 ≤ chains → goalsRefusal chains [] ≡ 8
 unfolding goalsRefusal badGoals
@@ -150,8 +133,8 @@ module _ (s : SheetLists) (e : loadNumber s ≡ 0) where
       rw (no-floats 52 b m) (first-zero _ _ e ∙ no-goals (chainsOf (s .sizes)) (shape .sized .some))
 
   module _ (b : List ℕ) (m : Misfit 8 16 (length b)) where
-    seven : blockRefusal (joints (s .codes)) (floatsIn 16 b) ≡ 7
-    seven = rw (no-floats 16 b m) (no-block (joints (s .codes)) (omega (arith, moving)))
+    seven : blockRefusal (s .codes) (floatsIn 16 b) ≡ 7
+    seven = rw (no-floats 16 b m) (no-block (s .codes) (omega (arith, moving)))
 
     pub frames-ragged-joints : (p r : ℕ) → framesNumber s (floatsIn 16 b) p r ≡ 7
     unfolding framesNumber framesRefusal
@@ -173,35 +156,35 @@ module _ (s : SheetLists) (e : loadNumber s ≡ 0) where
     unfolding updateNumber
     update-ragged-joints history n = after _ _ _ 6 e (first-some _ _ (λ z. omega (arith, seven, z)) ∙ seven)
 
-  pub update-ragged-history : (x : List Float) (b : List ℕ) (n : ℕ) → blockRefusal (joints (s .codes)) x ≡ 0 → Misfit 8 64 (length b)
+  pub update-ragged-history : (x : List Float) (b : List ℕ) (n : ℕ) → blockRefusal (s .codes) x ≡ 0 → Misfit 8 64 (length b)
       → updateNumber s (floatsIn 64 b) x n ≡ 7
   unfolding updateNumber
-  update-ragged-history x b n q m = after _ _ _ 6 e (first-zero _ _ q ∙ rw (no-floats 64 b m) (no-block (4 * joints (s .codes)) (omega (arith, moving))))
+  update-ragged-history x b n q m = after _ _ _ 6 e (first-zero _ _ q ∙ rw (no-floats 64 b m) (no-history (s .codes) (omega (arith, moving))))
 
-  module _ (x : List Float) (q : blockRefusal (joints (s .codes)) x ≡ 0) (n : ℕ) (m : n % 8 ≡ 0 → ⊥) where
+  module _ (x : List Float) (q : blockRefusal (s .codes) x ≡ 0) (n : ℕ) (m : n % 8 ≡ 0 → ⊥) where
     pub frames-ragged-positions : (r : ℕ) → framesNumber s x (roomIn n) r ≡ 9
-    unfolding framesNumber framesRefusal positionsNeed
-    frames-ragged-positions r = first-zero _ _ e ∙ after _ _ _ 8 q (ragged-output _ n (omega (arith, chained)) m)
+    unfolding framesNumber framesRefusal
+    frames-ragged-positions r = first-zero _ _ e ∙ after _ _ _ 8 q (ragged-output _ n (omega (arith, chained, positions-sum (linksOf (s .sizes)))) m)
 
     pub frames-ragged-rotations : (p : ℕ) → framesNumber s x p (roomIn n) ≡ 9
-    unfolding framesNumber framesRefusal rotationsNeed
-    frames-ragged-rotations p = first-zero _ _ e ∙ first-zero _ _ q ∙ second-output _ p _ (ragged-output _ n (omega (arith, chained)) m)
+    unfolding framesNumber framesRefusal
+    frames-ragged-rotations p = first-zero _ _ e ∙ first-zero _ _ q ∙ second-output _ p _ (ragged-output _ n (omega (arith, chained, rotations-sum (linksOf (s .sizes)))) m)
 
     pub pose-ragged-ends : poseNumber s x (roomIn n) ≡ 9
-    unfolding poseNumber poseRefusal endsNeed
+    unfolding poseNumber poseRefusal endsLength
     pose-ragged-ends = first-zero _ _ e ∙ first-zero _ _ q ∙ ragged-output _ n (omega (arith, chained)) m
 
     pub reset-ragged-ends : (h : ℕ) → resetNumber s x h (roomIn n) ≡ 9
-    unfolding resetNumber poseRefusal endsNeed
+    unfolding resetNumber poseRefusal endsLength
     reset-ragged-ends h = after _ _ _ 8 e (first-zero _ _ q ∙ ragged-output _ n (omega (arith, chained)) m)
 
     pub reset-ragged-history : (k : ℕ) → resetNumber s x (roomIn n) k ≡ 9
     unfolding resetNumber poseRefusal
     reset-ragged-history k =
-        first-zero _ _ e ∙ ap (λ (i : ℕ). firstOf i (roomRefusal (4 * joints (s .codes)) (roomIn n))) (first-zero _ _ q)
+        first-zero _ _ e ∙ ap (λ (i : ℕ). firstOf i (roomRefusal (historyLength (s .codes)) (roomIn n))) (first-zero _ _ q)
         ∙ second-output _ k _ (ragged-output _ n (omega (arith, moving)) m)
 
-    pub update-ragged-output : (history : List Float) → blockRefusal (4 * joints (s .codes)) history ≡ 0 → updateNumber s history x (roomIn n) ≡ 9
+    pub update-ragged-output : (history : List Float) → historyRefusal (s .codes) history ≡ 0 → updateNumber s history x (roomIn n) ≡ 9
     unfolding updateNumber
     update-ragged-output history h = first-zero _ _ e ∙ first-zero _ _ (first-zero _ _ q ∙ h) ∙ ragged-output _ n (omega (arith, moving)) m
 

@@ -3,10 +3,10 @@ use calls::answer;
 use calls::frames;
 use calls::measure;
 use lent_bytes::lent as bytes_lent;
+use refusals::lengths;
 use refusals::lent;
 use refusals::load;
 use refusals::shape;
-use sheet::chain;
 ghost use mathlib.Core.Path.{_≡_};
 ghost use Prim.Native.Nat.{_*_, _≤_};
 ghost use lib.ListN.{length};
@@ -48,8 +48,8 @@ pub fn frames(
     let mut p = [0.0; 204];
     let mut q = [0.0; 288];
     let seven = frames::frames(counts, codes, floats, joints, &mut p, &mut q);
-    let np = 3 * (codes.len() + counts.len());
-    let nq = 4 * (codes.len() + 2 * counts.len());
+    let np = lengths::positions_length(counts);
+    let nq = lengths::rotations_length(counts);
     let first = lent::room_refusal(np, bytes_lent::room(positions.len()));
     let second = lent::room_refusal(nq, bytes_lent::room(rotations.len()));
     let number = lent::first_of(seven, lent::first_of(first, second));
@@ -79,7 +79,7 @@ pub fn pose(
     let counts = shape::links(sizes);
     let mut p = [0.0; 28];
     let seven = frames::pose(counts, codes, floats, joints, &mut p);
-    let np = 7 * counts.len();
+    let np = lengths::ends_length(counts);
     let nine = lent::room_refusal(np, bytes_lent::room(ends.len()));
     let number = lent::first_of(seven, nine);
     if number != 0 {
@@ -106,14 +106,14 @@ pub fn update(
     if load != 0 {
         return load;
     }
-    let n = chain::joint_number(codes, codes.len());
-    let first = lent::block_refusal(n, joints);
-    let second = lent::block_refusal(4 * n, history);
-    let nine = lent::room_refusal(4 * n, bytes_lent::room(out.len()));
+    let first = lent::block_refusal(codes, joints);
+    let second = lent::history_refusal(codes, history);
+    let nine = lent::room_refusal(lengths::history_length(codes), bytes_lent::room(out.len()));
     let answer = lent::first_of(lent::first_of(first, second), nine);
     if answer != 0 {
         return answer;
     }
+    let n = joints.len();
     let kept = 3 * n;
     bytes_lent::put_floats(joints, 0, out);
     bytes_lent::put_floats(&history[..kept], 8 * n, out);
@@ -151,12 +151,14 @@ pub fn reset(
         return load;
     }
     let counts = shape::links(sizes);
-    let n = chain::joint_number(codes, codes.len());
     let mut p = [0.0; 28];
     let seven = frames::pose(counts, codes, floats, joints, &mut p);
-    let np = 7 * counts.len();
+    let np = lengths::ends_length(counts);
     let first = lent::room_refusal(np, bytes_lent::room(ends.len()));
-    let second = lent::room_refusal(4 * n, bytes_lent::room(history.len()));
+    let second = lent::room_refusal(
+        lengths::history_length(codes),
+        bytes_lent::room(history.len()),
+    );
     let number = lent::first_of(lent::first_of(seven, first), second);
     if number != 0 {
         return number;
@@ -183,7 +185,7 @@ pub fn manipulability(
         return load;
     }
     let counts = shape::links(sizes);
-    let seven = lent::block_refusal(chain::joint_number(codes, codes.len()), joints);
+    let seven = lent::block_refusal(codes, joints);
     let number = lent::first_of(seven, lent::room_refusal(1, bytes_lent::room(value.len())));
     if number != 0 {
         return number;

@@ -1,6 +1,7 @@
 // The calls on an arm sheet, as little-endian bytes. The answer is the refusal's number, 0 where the call is accepted.
 use crate::arm_lists;
 use lent_bytes::lent;
+use lent_bytes::sheet_lists;
 ghost use mathlib.Core.Path.{_≡_};
 ghost use Rattle.lent_bytes.specs.SheetLists.{sheetIn, blockIn, goalsIn, historyIn, roomOf};
 ghost use Rattle.arm_bytes.specs.ArmCalls.{loadNumber, setGoalsNumber, framesNumber, poseNumber, updateNumber, resetNumber};
@@ -14,10 +15,11 @@ pub fn load(sizes: &[u8], codes: &[u8], floats: &[u8], limits: &[u8]) -> u32
     let mut c = [0u16; 64];
     let mut f = [0.0; 448];
     let mut l = [0.0; 32];
-    let ns = lent::numbers(sizes, &mut s);
-    let nc = lent::numbers(codes, &mut c);
-    let nf = lent::floats(floats, &mut f);
-    let nl = lent::floats(limits, &mut l);
+    let n = sheet_lists::decode(sizes, codes, floats, limits, &mut s, &mut c, &mut f, &mut l);
+    let ns = n.sizes;
+    let nc = n.codes;
+    let nf = n.floats;
+    let nl = n.limits;
     refusals::load::load_refusal(&s[..ns], &c[..nc], &f[..nf], &l[..nl]) as u32
 }
 
@@ -29,10 +31,11 @@ pub fn set_goals(sizes: &[u8], codes: &[u8], floats: &[u8], limits: &[u8], goals
     let mut f = [0.0; 448];
     let mut l = [0.0; 32];
     let mut g = [0.0; 52];
-    let ns = lent::numbers(sizes, &mut s);
-    let nc = lent::numbers(codes, &mut c);
-    let nf = lent::floats(floats, &mut f);
-    let nl = lent::floats(limits, &mut l);
+    let n = sheet_lists::decode(sizes, codes, floats, limits, &mut s, &mut c, &mut f, &mut l);
+    let ns = n.sizes;
+    let nc = n.codes;
+    let nf = n.floats;
+    let nl = n.limits;
     let ng = lent::floats(goals, &mut g);
     arm_lists::set_goals(&s[..ns], &c[..nc], &f[..nf], &l[..nl], &g[..ng]) as u32
 }
@@ -55,10 +58,11 @@ pub fn frames(
     let mut f = [0.0; 448];
     let mut l = [0.0; 32];
     let mut x = [0.0; 16];
-    let ns = lent::numbers(sizes, &mut s);
-    let nc = lent::numbers(codes, &mut c);
-    let nf = lent::floats(floats, &mut f);
-    let nl = lent::floats(limits, &mut l);
+    let n = sheet_lists::decode(sizes, codes, floats, limits, &mut s, &mut c, &mut f, &mut l);
+    let ns = n.sizes;
+    let nc = n.codes;
+    let nf = n.floats;
+    let nl = n.limits;
     let nx = lent::floats(joints, &mut x);
     arm_lists::frames(
         &s[..ns],
@@ -87,10 +91,11 @@ pub fn pose(
     let mut f = [0.0; 448];
     let mut l = [0.0; 32];
     let mut x = [0.0; 16];
-    let ns = lent::numbers(sizes, &mut s);
-    let nc = lent::numbers(codes, &mut c);
-    let nf = lent::floats(floats, &mut f);
-    let nl = lent::floats(limits, &mut l);
+    let n = sheet_lists::decode(sizes, codes, floats, limits, &mut s, &mut c, &mut f, &mut l);
+    let ns = n.sizes;
+    let nc = n.codes;
+    let nf = n.floats;
+    let nl = n.limits;
     let nx = lent::floats(joints, &mut x);
     arm_lists::pose(&s[..ns], &c[..nc], &f[..nf], &l[..nl], &x[..nx], ends) as u32
 }
@@ -113,10 +118,11 @@ pub fn reset(
     let mut f = [0.0; 448];
     let mut l = [0.0; 32];
     let mut x = [0.0; 16];
-    let ns = lent::numbers(sizes, &mut s);
-    let nc = lent::numbers(codes, &mut c);
-    let nf = lent::floats(floats, &mut f);
-    let nl = lent::floats(limits, &mut l);
+    let n = sheet_lists::decode(sizes, codes, floats, limits, &mut s, &mut c, &mut f, &mut l);
+    let ns = n.sizes;
+    let nc = n.codes;
+    let nf = n.floats;
+    let nl = n.limits;
     let nx = lent::floats(joints, &mut x);
     arm_lists::reset(
         &s[..ns],
@@ -147,10 +153,11 @@ pub fn update(
     let mut l = [0.0; 32];
     let mut h = [0.0; 64];
     let mut x = [0.0; 16];
-    let ns = lent::numbers(sizes, &mut s);
-    let nc = lent::numbers(codes, &mut c);
-    let nf = lent::floats(floats, &mut f);
-    let nl = lent::floats(limits, &mut l);
+    let n = sheet_lists::decode(sizes, codes, floats, limits, &mut s, &mut c, &mut f, &mut l);
+    let ns = n.sizes;
+    let nc = n.codes;
+    let nf = n.floats;
+    let nl = n.limits;
     let nh = lent::floats(history, &mut h);
     let nx = lent::floats(joints, &mut x);
     arm_lists::update(
@@ -180,10 +187,11 @@ pub fn manipulability(
     let mut f = [0.0; 448];
     let mut l = [0.0; 32];
     let mut x = [0.0; 16];
-    let ns = lent::numbers(sizes, &mut s);
-    let nc = lent::numbers(codes, &mut c);
-    let nf = lent::floats(floats, &mut f);
-    let nl = lent::floats(limits, &mut l);
+    let n = sheet_lists::decode(sizes, codes, floats, limits, &mut s, &mut c, &mut f, &mut l);
+    let ns = n.sizes;
+    let nc = n.codes;
+    let nf = n.floats;
+    let nl = n.limits;
     let nx = lent::floats(joints, &mut x);
     arm_lists::manipulability(&s[..ns], &c[..nc], &f[..nf], &l[..nl], &x[..nx], value) as u32
 }

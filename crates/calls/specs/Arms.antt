@@ -39,8 +39,8 @@ arms-passed sizes cs gs e =
       few = s .moving;
     }
 
-pub sheet-of : (ns cs : List ℕ) (gs x : List Float) → Accepted ns cs gs → blockRefusal (joints cs) x ≡ 0 → Sheet ns cs gs x
-sheet-of ns cs gs x a e = record { whole = a .whole; chains = a .chains .few; links = a .links; floats = a .floats; block = block-passed (joints cs) x e }
+pub sheet-of : (ns cs : List ℕ) (gs x : List Float) → Accepted ns cs gs → blockRefusal cs x ≡ 0 → Sheet ns cs gs x
+sheet-of ns cs gs x a e = record { whole = a .whole; chains = a .chains .few; links = a .links; floats = a .floats; block = block-passed cs x e }
 
 -- the poses of the walk, in a list that has room for those of 64 links
 pub walked : (ns cs : List ℕ) (gs x rest r : List Float) → Accepted ns cs gs → length rest ≡ 448 → r ≡ splice rest 0 (framesOf ns cs gs x)

@@ -2,3 +2,4 @@ pub mod Answer
 pub mod Arms
 pub mod Frames
 pub mod Rows
+pub mod Six

@@ -1,12 +1,13 @@
 // frames and pose.
+use refusals::lengths;
 use refusals::lent;
-use sheet::chain;
 use spacetime::arm;
 use spacetime::frames;
 ghost use mathlib.Core.Path.{_≡_};
 ghost use Prim.Native.Nat.{_≤_};
 ghost use lib.ListN.{length};
 ghost use Rattle.lists.specs.Splice.{splice};
+ghost use Rattle.sheet.specs.Chain.{total};
 ghost use Rattle.spacetime.specs.Walk.{poseOf};
 ghost use Rattle.spacetime.specs.Frames.{positionsOf, rotationsOf, endsOf};
 ghost use Rattle.calls.specs.Arms.{Accepted, ifTaken};
@@ -15,19 +16,16 @@ ghost use Rattle.calls.specs.Frames.{framesRefusal, poseRefusal};
 fn frames_refusal(
     sizes: &[u16],
     codes: &[u16],
-    geo: &[f64],
     block: &[f64],
     positions: usize,
     rotations: usize,
 ) -> u16
-    requires { ⌜ Accepted (now sizes) (now codes) (now geo) ⌝ }
+    requires { ⌜ (length (now sizes) ≤ 4) × (total (now sizes) ≤ 64) ⌝ }
     ensures { λ r. ⌜ r ≡ framesRefusal (now (sizes .entry)) (now (codes .entry)) (now (block .entry)) positions rotations ⌝ }
 {
-    let n = codes.len();
-    let c = sizes.len();
-    let seven = lent::block_refusal(chain::joint_number(codes, n), block);
-    let first = lent::room_refusal(3 * (n + c), positions);
-    let second = lent::room_refusal(4 * (n + 2 * c), rotations);
+    let seven = lent::block_refusal(codes, block);
+    let first = lent::room_refusal(lengths::positions_length(sizes), positions);
+    let second = lent::room_refusal(lengths::rotations_length(sizes), rotations);
     lent::first_of(seven, lent::first_of(first, second))
 }
 
@@ -46,7 +44,7 @@ pub fn frames(
     ensures rotations { λ r. ⌜ now (rotations .exit) ≡ ifTaken r (now (rotations .entry)) (splice (now (rotations .entry)) 0
         (rotationsOf (now (sizes .entry)) (poseOf (now (sizes .entry)) (now (codes .entry)) (now (geo .entry)) (now (block .entry))))) ⌝ }
 {
-    let number = frames_refusal(sizes, codes, geo, block, positions.len(), rotations.len());
+    let number = frames_refusal(sizes, codes, block, positions.len(), rotations.len());
     if number != 0 {
         return number;
     }
@@ -58,11 +56,11 @@ pub fn frames(
 }
 
 fn pose_refusal(sizes: &[u16], codes: &[u16], block: &[f64], room: usize) -> u16
-    requires { ⌜ (length (now sizes) ≤ 4) × (length (now codes) ≤ 64) ⌝ }
+    requires { ⌜ length (now sizes) ≤ 4 ⌝ }
     ensures { λ r. ⌜ r ≡ poseRefusal (now (sizes .entry)) (now (codes .entry)) (now (block .entry)) room ⌝ }
 {
-    let seven = lent::block_refusal(chain::joint_number(codes, codes.len()), block);
-    lent::first_of(seven, lent::room_refusal(7 * sizes.len(), room))
+    let seven = lent::block_refusal(codes, block);
+    lent::first_of(seven, lent::room_refusal(lengths::ends_length(sizes), room))
 }
 
 pub fn pose(sizes: &[u16], codes: &[u16], geo: &[f64], block: &[f64], ends: &mut [f64]) -> u16

@@ -5,23 +5,56 @@ use refusals::lent;
 use sheet::chain;
 use spacetime::arm;
 ghost use mathlib.Core.Path.{_≡_};
-ghost use Rattle.sheet.specs.Chain.{joints};
+ghost use mathlib.Core.Bool.{_&&_};
+ghost use Prim.Native.Nat.{_≤_};
+ghost use lib.Dec.{ltb};
+ghost use lib.ListN.{length};
+ghost use Rattle.sheet.specs.Chain.{total};
 ghost use Rattle.spacetime.specs.Walk.{poseOf};
 ghost use Rattle.manipulability.specs.Jacobian.{manipulabilityOf};
 ghost use Rattle.refusals.specs.Refusal.{blockRefusal};
 ghost use Rattle.calls.specs.Arms.{Accepted};
 ghost use Rattle.calls.specs.Answer.{numberOf, answerValue, valueIf, answerOf};
+ghost use Rattle.calls.specs.Six.{anySix};
+
+fn still_under(under: bool, joints: usize) -> bool
+    ensures { λ r. ⌜ r ≡ (under && ltb joints 6) ⌝ }
+{
+    under && joints < 6
+}
+
+// Whether a chain has six joints or more; with fewer its manipulability is 0.
+fn any_six(sizes: &[u16], codes: &[u16]) -> bool
+    requires { ⌜ (total (now sizes) ≡ length (now codes)) × (length (now codes) ≤ 64) ⌝ }
+    ensures { λ r. ⌜ r ≡ anySix (now (sizes .entry)) (now (codes .entry)) ⌝ }
+{
+    let mut under = true;
+    let mut link: usize = 0;
+    let mut joint: usize = 0;
+    let mut c: usize = 0;
+    while c < sizes.len() {
+        link += sizes[c] as usize;
+        let next = chain::joint_number(codes, link);
+        under = still_under(under, next - joint);
+        joint = next;
+        c += 1;
+    }
+    !under
+}
 
 pub fn manipulability(sizes: &[u16], codes: &[u16], geo: &[f64], block: &[f64]) -> Answer
     requires { ⌜ Accepted (now sizes) (now codes) (now geo) ⌝ }
-    ensures number { λ r. ⌜ numberOf r ≡ blockRefusal (joints (now (codes .entry))) (now (block .entry)) ⌝ }
+    ensures number { λ r. ⌜ numberOf r ≡ blockRefusal (now (codes .entry)) (now (block .entry)) ⌝ }
     ensures value { λ r. ⌜ answerValue r ≡ valueIf (numberOf r)
         (manipulabilityOf (poseOf (now (sizes .entry)) (now (codes .entry)) (now (geo .entry)) (now (block .entry))) (now (sizes .entry)) (now (codes .entry))) ⌝ }
     ensures case { λ r. ⌜ r ≡ answerOf (numberOf r) (answerValue r) ⌝ }
 {
-    let number = lent::block_refusal(chain::joint_number(codes, codes.len()), block);
+    let number = lent::block_refusal(codes, block);
     if number != 0 {
         return Answer::Refused(number);
+    }
+    if !any_six(sizes, codes) {
+        return Answer::Value(0.0);
     }
     let mut poses = [0.0; 448];
     arm::get_frames_immutable(sizes, codes, geo, block, &mut poses);

@@ -21,18 +21,18 @@ use Rattle.geometry.specs.Segment.{innerOf, endedOf, closestOf, pointOf, distan
 use Rattle.sheet.specs.Code.{hasJoint, kindOf}
 use Rattle.sheet.specs.Read.{kindAt}
 use Rattle.sheet.specs.Chain.{firstIn, endIn, total, chainStart, jointsOf, jointOf, joints}
-use Rattle.spacetime.specs.Link.{isNone, offsetOf, signedBy, alongOf, turnOf, jointTurn, aboutOf, turnedBy, carriedOf, slidOf, movedOf, linkOf}
+use Rattle.spacetime.specs.Link.{isNone, offsetOf, signedBy, alongOf, turnOf, jointTurn, aboutOf, turnedBy, carriedOf, slideOf, slidOf, movedOf, linkOf}
 use Rattle.spacetime.specs.Floats.{vecAt, quatAt, flatVec, flatQuat, flat}
 use Rattle.spacetime.specs.Walk.{valueOf, afterLink, startOf, beforeOf, poseOf}
 use Rattle.spacetime.specs.Frames.{positionAt, rotationAt, positionsFrom, rotationsFrom, chainPositions, chainRotations, positionsOf, rotationsOf}
 use Rattle.groove.specs.Vars.{resetOf, updateOf}
-use Rattle.groove.specs.Loss.{tenth, grooveLoss, scaledOf, powerOf, bOf, wallOf, swampLoss}
+use Rattle.groove.specs.Loss.{tenth, grooveLoss, scaledOf, powerOf, bOf, wallOf, swampLoss, freeOf}
 use Rattle.self_collision.specs.Pairs.{pairsFrom, pairsOf, chainPairs, allPairs}
 use Rattle.objective_master.specs.Objective.{goalObjectives, limitObjective, motionObjectives, pairObjective, objectives}
 use Rattle.one_block.specs.Record.{copyOf, recordOf, againOf, jointEntry, linkEntry, poseEntry, recordJoints, recordLinks, recordPoses, againAt, againBelow, entriesOf}
 use Rattle.refusals.specs.Range.{every, between, within, withinAt, squaresOf, nearOne, unitAt}
 use Rattle.refusals.specs.Lowest.{lowestFrom, lowest}
-use Rattle.refusals.specs.Refusal.{linksFit, badSizes, badLengths, listedKind, listedCode, listedAt, badCodes, chainJoints, twoJoints, laterFits, badJoints, freePair, rangedPair, pairFits, limitsFit, badLimits, linkFits, badFloats, loadRefusal, badBlock, blockRefusal}
+use Rattle.refusals.specs.Refusal.{linksFit, badSizes, badLengths, listedKind, listedCode, listedAt, badCodes, chainJoints, twoJoints, laterFits, badJoints, rangedPair, pairFits, limitsFit, badLimits, linkFits, badFloats, loadRefusal, jointFits, valueFits, linkValueFits, blockFits, badBlock, blockRefusal}
 
 abbrev vec : Float → Float → Float → Vec3
 vec x y z = record { x = x; y = y; z = z }
@@ -114,8 +114,8 @@ pub record Cases : Type 0 where
   -- parallel unit segments 1 apart: 1
   pub parallel : distanceOf (vec nought nought nought) (vec one nought nought) (vec nought one nought) (vec one one nought) ≡ one
   -- joint 8 is taken, the next float above it is not
-  pub joint-taken : blockRefusal 2 (eight ∷ eight ∷ []) ≡ 0
-  pub joint-refused : blockRefusal 2 (eight ∷ ofBits binary64 0x4020_0000_0000_0001 ∷ []) ≡ 7
+  pub joint-taken : blockRefusal (13 ∷ 13 ∷ []) (eight ∷ eight ∷ []) ≡ 0
+  pub joint-refused : blockRefusal (13 ∷ 13 ∷ []) (eight ∷ ofBits binary64 0x4020_0000_0000_0001 ∷ []) ≡ 7
   -- a chain of one joint is refused, one of two is taken
   pub one-joint : loadRefusal (1 ∷ 1 ∷ []) (13 ∷ []) up free ≡ 4
   pub two-joints : loadRefusal (1 ∷ 2 ∷ []) (13 ∷ 13 ∷ []) (up ++ up) (free ++ free) ≡ 0
@@ -129,7 +129,7 @@ poses-walked gs x = refl
 
 -- All of them, by computing both sides.
 pub cases : Cases
-unfolding recordJoints recordLinks recordOf againOf jointEntry linkEntry againAt againBelow entriesOf endIn objectives goalObjectives limitObjective motionObjectives pairObjective allPairs chainPairs pairsOf pairsFrom grooveLoss swampLoss scaledOf wallOf powerOf bOf power20Of squarings expOf expSeriesOf expTermOf positionsOf rotationsOf chainPositions chainRotations positionsFrom rotationsFrom positionAt rotationAt runs poseOf beforeOf startOf afterLink valueOf linkOf isNone offsetOf signedBy alongOf turnOf jointTurn aboutOf turnedBy carriedOf slidOf movedOf vecAt quatAt flatVec flatQuat firstIn total chainStart hasJoint jointsOf jointOf joints kindAt kindOf originOf zeroOf identityOf productOf axisOf twiceOf rotateOf quatZOf sineOf cosineOf seriesOf termOf sineDivisor cosineDivisor downFrom rootOf distanceOf pointOf closestOf endedOf innerOf addOf subOf scaleOf dotOf crossOf normOf cutOf blockRefusal badBlock every between within withinAt squaresOf nearOne unitAt freePair rangedPair pairFits limitsFit badLimits linkFits badFloats loadRefusal lowest lowestFrom badSizes linksFit badLengths badCodes listedAt listedCode listedKind badJoints twoJoints laterFits chainJoints add sub mul div neg eq ne lt le ofInt ofBits
+unfolding recordJoints recordLinks recordOf againOf jointEntry linkEntry againAt againBelow entriesOf endIn objectives goalObjectives limitObjective motionObjectives pairObjective allPairs chainPairs pairsOf pairsFrom grooveLoss swampLoss scaledOf wallOf powerOf bOf power20Of squarings expOf expSeriesOf expTermOf positionsOf rotationsOf chainPositions chainRotations positionsFrom rotationsFrom positionAt rotationAt runs poseOf beforeOf startOf afterLink valueOf linkOf isNone offsetOf signedBy alongOf turnOf jointTurn aboutOf turnedBy carriedOf slideOf slidOf movedOf vecAt quatAt flatVec flatQuat firstIn total chainStart hasJoint jointsOf jointOf joints kindAt kindOf originOf zeroOf identityOf productOf axisOf twiceOf rotateOf quatZOf sineOf cosineOf seriesOf termOf sineDivisor cosineDivisor downFrom rootOf distanceOf pointOf closestOf endedOf innerOf addOf subOf scaleOf dotOf crossOf normOf cutOf blockRefusal jointFits valueFits linkValueFits blockFits badBlock every between within withinAt squaresOf nearOne unitAt freeOf rangedPair pairFits limitsFit badLimits linkFits badFloats loadRefusal lowest lowestFrom badSizes linksFit badLengths badCodes listedAt listedCode listedKind badJoints twoJoints laterFits chainJoints add sub mul div neg eq ne lt le ofInt ofBits
 cases = record {
   groove-centre = refl;
   swamp-centre = refl;

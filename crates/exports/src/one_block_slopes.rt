@@ -4,7 +4,7 @@ ghost use mathlib.Core.Path.{_≡_};
 ghost use Rattle.lent_bytes.specs.SheetLists.{sheetIn, blockIn, goalsIn, historyIn, roomOf};
 ghost use Rattle.arm_bytes.specs.ArmCalls.{outputOf};
 ghost use Rattle.objective_bytes.specs.ObjectiveCalls.{objectiveValue, gradientSlopes};
-ghost use Rattle.one_block_bytes.specs.OneBlockCalls.{oneBlockNumber, jointsIn, linksIn, posesIn, numberRoomOf, numbersOutputOf};
+ghost use Rattle.one_block_bytes.specs.OneBlockCalls.{oneBlockNumber, numberRoomOf, RecordWritten};
 
 // The joints are only read. The slopes are those by a step of 1e-7; the record has the joint raised, the link, and the pose after it.
 #[no_mangle]
@@ -26,9 +26,7 @@ pub extern "C" fn relaxed_ik_gradient_one_block(
         (roomOf value) (roomOf slopes) (numberRoomOf «record_joints») (numberRoomOf «record_links») (roomOf «record_poses») ⌝ }
     ensures value { λ r. ⌜ now (value .exit) ≡ outputOf r value (objectiveValue (sheetIn sizes codes floats limits) (goalsIn goals) (historyIn history) (blockIn joints)) ⌝ }
     ensures slopes { λ r. ⌜ now (slopes .exit) ≡ outputOf r slopes (gradientSlopes (sheetIn sizes codes floats limits) (goalsIn goals) (historyIn history) (blockIn joints)) ⌝ }
-    ensures record { λ r. ⌜ (now («record_joints» .exit) ≡ numbersOutputOf r «record_joints» (jointsIn (sheetIn sizes codes floats limits)))
-        × (now («record_links» .exit) ≡ numbersOutputOf r «record_links» (linksIn (sheetIn sizes codes floats limits)))
-        × (now («record_poses» .exit) ≡ outputOf r «record_poses» (posesIn (sheetIn sizes codes floats limits) (blockIn joints))) ⌝ }
+    ensures record { λ r. ⌜ RecordWritten r (sheetIn sizes codes floats limits) (blockIn joints) «record_joints» «record_links» «record_poses» ⌝ }
 {
     bytes::gradient_one_block(
         sizes,

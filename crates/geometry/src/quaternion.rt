@@ -79,11 +79,10 @@ pub fn identity() -> Quat
 pub fn get_quat_x(v: f64) -> Quat
     ensures { λ r. ⌜ r ≡ quatXOf v ⌝ }
 {
-    let half = v * 0.5;
-    let both = series::both_series(half * half);
+    let both = series::sine_cosine(v * 0.5);
     Quat {
         w: both.cosine,
-        i: half * both.sine,
+        i: both.sine,
         j: 0.0,
         k: 0.0,
     }
@@ -92,12 +91,11 @@ pub fn get_quat_x(v: f64) -> Quat
 pub fn get_quat_y(v: f64) -> Quat
     ensures { λ r. ⌜ r ≡ quatYOf v ⌝ }
 {
-    let half = v * 0.5;
-    let both = series::both_series(half * half);
+    let both = series::sine_cosine(v * 0.5);
     Quat {
         w: both.cosine,
         i: 0.0,
-        j: half * both.sine,
+        j: both.sine,
         k: 0.0,
     }
 }
@@ -105,13 +103,12 @@ pub fn get_quat_y(v: f64) -> Quat
 pub fn get_quat_z(v: f64) -> Quat
     ensures { λ r. ⌜ r ≡ quatZOf v ⌝ }
 {
-    let half = v * 0.5;
-    let both = series::both_series(half * half);
+    let both = series::sine_cosine(v * 0.5);
     Quat {
         w: both.cosine,
         i: 0.0,
         j: 0.0,
-        k: half * both.sine,
+        k: both.sine,
     }
 }
 

@@ -1,17 +1,19 @@
 -- Lists that are lent as little-endian bytes, and u16s and floats as the bytes that go out.
 use mathlib.Core.Path.{_≡_, refl, sym, ap, _∙_, subst}
 use mathlib.Core.Bool.{Bool, false, true, cond, not}
+use mathlib.Core.Logic.{_⊎_, ⊎-elim}
 use mathlib.Core.List.{List, [], _∷_, _++_, append-nil, append-assoc}
 use Prim.Native.Nat.{ℕ, suc, _+_, _*_, _/_, _%_, _≤_, _<_}
 use native.Mathlib.Nat.{add-comm, mul-zero, mul-suc}
 use native.Mathlib.Numerals.{add-one}
 use native.Mathlib.Omega.{arith}
 use lib.Dec.{T, ltb, eqb}
-use borrow.Author.Tests.{ltb-false}
+use borrow.Author.Tests.{ltb-false, ne-eqb, lt-ltb}
 use lib.ListN.{length, getD, set, take, length-append}
 use lib.Seq.{take-suc, length-take-le}
 use lib.Ieee.{Float, nan, inf, fin, binary64, toBits, isNan, ne, eq}
 use Rattle.lists.specs.Splice.{splice, splice-nil, splice-splice, splice-sets, length-splice, take-splice-front}
+use Rattle.lists.specs.Runs.{runs}
 use Rattle.lists.specs.Listed.{listed, length-listed}
 use Rattle.lent_bytes.specs.Bytes.{pairAt, floatAt}
 
@@ -19,6 +21,10 @@ use Rattle.lent_bytes.specs.Bytes.{pairAt, floatAt}
 -- either way it is of a wrong length, and an empty list is refused with the same number.
 unfoldable pub countIn : ℕ → ℕ → ℕ → ℕ
 countIn w cap n = cond (eqb (n % w) 0) (cond (ltb cap (n / w)) 0 (n / w)) 0
+
+-- n bytes are no whole count of elements of w bytes, or more than cap of them
+abbrev pub Misfit : ℕ → ℕ → ℕ → Type 0
+Misfit w cap n = (n % w ≡ 0 → ⊥) ⊎ (cap < n / w)
 
 -- number i of a byte list
 abbrev pub numberAt : List ℕ → ℕ → ℕ
@@ -87,6 +93,16 @@ pub count-under : (w cap n : ℕ) → countIn w cap n ≤ n / w
 unfolding countIn
 count-under w cap n = count-less (eqb (n % w) 0) (ltb cap (n / w)) (n / w)
 
+-- a misfit counts as empty
+pub none-counted : (w cap n : ℕ) → Misfit w cap n → countIn w cap n ≡ 0
+unfolding countIn
+none-counted w cap n m =
+    ⊎-elim (λ (h : n % w ≡ 0 → ⊥). rw (ne-eqb (n % w) 0 h)) (λ (l : cap < n / w). rw (lt-ltb cap (n / w) l) (either (eqb (n % w) 0))) m
+  where
+    either : (b : Bool) → _≡_ {A = ℕ} (cond b 0 0) 0
+    either true = refl
+    either false = refl
+
 room-most : (t : Bool) (n : ℕ) → 8 * cond t (n / 8) 0 ≤ n
 room-most false n = omega arith
 room-most true n = omega arith
@@ -116,9 +132,21 @@ pub numbers-length : (cap : ℕ) (b : List ℕ) → length (numbersIn cap b) ≡
 unfolding numbersIn
 numbers-length cap b = length-listed (numberAt b) (countIn 2 cap (length b))
 
+pub no-numbers : (cap : ℕ) (b : List ℕ) → Misfit 2 cap (length b) → numbersIn cap b ≡ []
+unfolding numbersIn listed runs
+no-numbers cap b m = rw (none-counted 2 cap (length b) m)
+
+pub no-floats : (cap : ℕ) (b : List ℕ) → Misfit 8 cap (length b) → floatsIn cap b ≡ []
+unfolding floatsIn listed runs
+no-floats cap b m = rw (none-counted 8 cap (length b) m)
+
 pub floats-length : (cap : ℕ) (b : List ℕ) → length (floatsIn cap b) ≡ countIn 8 cap (length b)
 unfolding floatsIn
 floats-length cap b = length-listed (floatAt b) (countIn 8 cap (length b))
+
+-- the count of floats at a front
+pub front-count : (cap : ℕ) (b : List ℕ) {ys : List Float} {n : ℕ} → Front (floatsIn cap b) ys n → n ≡ countIn 8 cap (length b)
+front-count cap b f = f .sized ∙ ap length (f .held) ∙ floats-length cap b
 
 -- elements that have w bytes each
 module _ {A : Type 0} (f : A → List ℕ) (w : ℕ) (wide : (x : A) → length (f x) ≡ w) where

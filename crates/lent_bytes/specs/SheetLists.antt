@@ -5,8 +5,10 @@ use Prim.Native.Nat.{ℕ}
 use denote.Ref.{RefT, now}
 use denote.Triple.Both.{Both}
 use lib.Ieee.{Float}
-use lib.ListN.{length}
-use Rattle.lent_bytes.specs.Lent.{numbersIn, floatsIn, roomIn}
+use lib.ListN.{length, take}
+use Rattle.lent_bytes.specs.Lent.{Front, numbersIn, floatsIn, roomIn}
+use Rattle.lent_bytes.specs.declared.sheet_lists.SheetCounts.{SheetCounts}
+use Rattle.lent_bytes.specs.declared.task_lists.TaskCounts.{TaskCounts}
 
 -- a list that a call is lent, as a contract has its name: the list at entry, and X, what is seen of it at exit
 abbrev pub LentList : Type 0 → Type 0 → Type 0
@@ -47,6 +49,20 @@ historyIn history = floatsIn 64 (lent history)
 abbrev pub roomOf : {X : Type 0} → LentList ℕ X → ℕ
 roomOf out = roomIn (length (lent out))
 
+-- the lists of a sheet at the fronts of four lists, n of each
+pub record SheetHeld (s : SheetLists) (n : SheetCounts) (sizes codes : List ℕ) (floats limits : List Float) : Type 0 where
+  pub of-sizes : Front (s .sizes) sizes (n .sizes)
+  pub of-codes : Front (s .codes) codes (n .codes)
+  pub of-floats : Front (s .floats) floats (n .floats)
+  pub of-limits : Front (s .limits) limits (n .limits)
+
+-- goals, history and joints at the fronts of three, the last of which has room for any joints: a call may raise them in place
+pub record TaskHeld (g h x : List Float) (n : TaskCounts) (goals history joints : List Float) : Type 0 where
+  pub of-goals : Front g goals (n .goals)
+  pub of-history : Front h history (n .history)
+  pub of-joints : Front x joints (n .joints)
+  pub room : length joints ≡ 16
+
 -- ---- laws: lists that are equal
 pub same-two : {A B C : Type 0} (f : A → B → C) {a a′ : A} {b b′ : B} → a ≡ a′ → b ≡ b′ → f a b ≡ f a′ b′
 same-two f {a′ = a′} {b = b} p q = ap (λ x. f x b) p ∙ ap (f a′) q
@@ -57,3 +73,7 @@ same-three f {a′ = a′} {b′ = b′} {c = c} p q r = same-two (λ a b. f a b
 pub same-sheet : {s s′ c c′ : List ℕ} {f f′ l l′ : List Float} → s ≡ s′ → c ≡ c′ → f ≡ f′ → l ≡ l′ → sheetWith s c f l ≡ sheetWith s′ c′ f′ l′
 same-sheet {s′ = s′} {c = c} {c′ = c′} {f = f} {f′ = f′} {l = l} p q r t =
     ap (λ x. sheetWith x c f l) p ∙ ap (λ x. sheetWith s′ x f l) q ∙ ap (λ x. sheetWith s′ c′ x l) r ∙ ap (sheetWith s′ c′ f′) t
+
+pub sheet-held : {s : SheetLists} {n : SheetCounts} {sizes codes : List ℕ} {floats limits : List Float} → SheetHeld s n sizes codes floats limits
+    → sheetWith (take (n .sizes) sizes) (take (n .codes) codes) (take (n .floats) floats) (take (n .limits) limits) ≡ s
+sheet-held h = same-sheet (h .of-sizes .held) (h .of-codes .held) (h .of-floats .held) (h .of-limits .held)

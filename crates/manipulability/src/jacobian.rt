@@ -33,7 +33,7 @@ fn put_axis(codes: &[u16], link: usize, axes: &mut [u16; 16], joint: usize) -> u
     requires { ⌜ (link < length (now codes)) × (joint + jointsOf (getD (now codes) link 0) ≤ 16) × (length (now axes) ≡ 16) ⌝ }
     ensures { λ r. ⌜ (r ≡ joint + jointsOf (getD (now (codes .entry)) link 0)) × (now (axes .exit) ≡ splice (now (axes .entry)) joint (axisPiece (now (codes .entry)) link)) ⌝ }
 {
-    let k = codes[link];
+    let k = reader::read(codes, link);
     if !code::has_joint(k) {
         return joint;
     }

@@ -1,46 +1,46 @@
 -- Each byte call on the objective gets the lowest number of a condition that holds, and is accepted where none holds.
 use mathlib.Core.Path.{_≡_, refl, ap, _∙_}
 use mathlib.Core.List.{List, [], _∷_, _++_}
-use Prim.Native.Nat.{ℕ, _*_}
+use Prim.Native.Nat.{ℕ}
 use lib.Ieee.{Float}
 use Rattle.sheet.specs.Chain.{joints}
+use Rattle.refusals.specs.Lengths.{scratchLength, slopesLength, valueLength}
 use Rattle.refusals.specs.Lowest.{firstOf}
-use Rattle.refusals.specs.Refusal.{chainsOf, blockRefusal, goalsRefusal, roomRefusal}
-use Rattle.refusals.specs.Rows.{Row, firstRow, upFrom, IsLowest, lowest-row, blockRow, goalsRow, roomRow, goals-row, room-row}
+use Rattle.refusals.specs.Refusal.{chainsOf, blockRefusal, historyRefusal, goalsRefusal, roomRefusal}
+use Rattle.refusals.specs.Rows.{Row, firstRow, upFrom, IsLowest, lowest-row, blockRow, historyRow, goalsRow, roomRow, goals-row, room-row}
 use Rattle.calls.specs.Rows.{room-alone}
 use Rattle.lent_bytes.specs.SheetLists.{SheetLists}
 use Rattle.arm_bytes.specs.ArmCalls.{loadNumber}
-use Rattle.arm_bytes.specs.Numbers.{first-assoc, block-then, sheetRows, after-load}
+use Rattle.arm_bytes.specs.Numbers.{first-assoc, block-then, history-then, sheetRows, after-load}
 use Rattle.objective_bytes.specs.ObjectiveCalls.{aimedNumber, objectiveNumber, slopesNumber}
 
 module _ (s : SheetLists) (goals history x : List Float) where
   -- the conditions of sheet, joints, history and goals, 1 to 8, before a call's own
   abbrev pub aimedRows : List Row → List Row
-  aimedRows rs = sheetRows s ++ (blockRow (joints (s .codes)) x ∷ blockRow (4 * joints (s .codes)) history ∷ goalsRow (chainsOf (s .sizes)) goals ∷ rs)
+  aimedRows rs = sheetRows s ++ (blockRow (s .codes) x ∷ historyRow (s .codes) history ∷ goalsRow (chainsOf (s .sizes)) goals ∷ rs)
 
   pub aimed-then : (n : ℕ) (rs : List Row) → n ≡ firstRow rs → firstOf (aimedNumber s goals history x) n ≡ firstRow (aimedRows rs)
   unfolding aimedNumber
   aimed-then n rs e =
-      let k = joints (s .codes) in
-      let a = blockRefusal k x in
-      let b = blockRefusal (4 * k) history in
+      let a = blockRefusal (s .codes) x in
+      let b = historyRefusal (s .codes) history in
       let g = goalsRefusal (chainsOf (s .sizes)) goals in
       first-assoc (loadNumber s) (firstOf (firstOf a b) g) n
       ∙ after-load s _ _
       (first-assoc (firstOf a b) g n ∙ first-assoc a b (firstOf g n)
-      ∙ block-then k x _ _ (block-then (4 * k) history _ _ (ap (firstOf g) e ∙ goals-row (chainsOf (s .sizes)) goals rs)))
+      ∙ block-then (s .codes) x _ _ (history-then (s .codes) history _ _ (ap (firstOf g) e ∙ goals-row (chainsOf (s .sizes)) goals rs)))
 
-  pub objective-number-lowest : (value : ℕ) → IsLowest (aimedRows (roomRow 1 value ∷ [])) (objectiveNumber s goals history x value)
+  pub objective-number-lowest : (value : ℕ) → IsLowest (aimedRows (roomRow valueLength value ∷ [])) (objectiveNumber s goals history x value)
   unfolding objectiveNumber upFrom
-  objective-number-lowest value = lowest-row _ _ refl (aimed-then _ _ (room-alone 1 value))
+  objective-number-lowest value = lowest-row _ _ refl (aimed-then _ _ (room-alone valueLength value))
 
   pub slopes-number-lowest : (scratch value slopes : ℕ)
-      → IsLowest (aimedRows (roomRow (joints (s .codes)) scratch ∷ roomRow 1 value ∷ roomRow (joints (s .codes)) slopes ∷ [])) (slopesNumber s goals history x scratch value slopes)
+      → IsLowest (aimedRows (roomRow (scratchLength (s .codes)) scratch ∷ roomRow valueLength value ∷ roomRow (slopesLength (s .codes)) slopes ∷ [])) (slopesNumber s goals history x scratch value slopes)
   unfolding slopesNumber upFrom
   slopes-number-lowest scratch value slopes =
       let k = joints (s .codes) in
       lowest-row _ _ refl
       (aimed-then _ _
-      (ap (λ (n : ℕ). firstOf (roomRefusal k scratch) (firstOf (roomRefusal 1 value) n)) (room-alone k slopes)
-      ∙ ap (firstOf (roomRefusal k scratch)) (room-row 1 value (roomRow k slopes ∷ []))
-      ∙ room-row k scratch (roomRow 1 value ∷ roomRow k slopes ∷ [])))
+      (ap (λ (n : ℕ). firstOf (roomRefusal k scratch) (firstOf (roomRefusal valueLength value) n)) (room-alone k slopes)
+      ∙ ap (firstOf (roomRefusal k scratch)) (room-row valueLength value (roomRow k slopes ∷ []))
+      ∙ room-row k scratch (roomRow valueLength value ∷ roomRow k slopes ∷ [])))

@@ -4,8 +4,9 @@ use Prim.Native.Nat.{ℕ, _*_}
 use lib.Ieee.{Float}
 use lib.ListN.{take, drop}
 use Rattle.sheet.specs.Chain.{joints}
+use Rattle.refusals.specs.Lengths.{scratchLength, slopesLength, valueLength}
 use Rattle.refusals.specs.Lowest.{firstOf}
-use Rattle.refusals.specs.Refusal.{chainsOf, linksOf, blockRefusal, goalsRefusal, roomRefusal}
+use Rattle.refusals.specs.Refusal.{chainsOf, linksOf, blockRefusal, historyRefusal, goalsRefusal, roomRefusal}
 use Rattle.objective_master.specs.Losses.{Given, given}
 use Rattle.objective_master.specs.Weights.{weightPriors}
 use Rattle.gradient.specs.Gradient.{valueAt, gradientOf, finiteDiffOf}
@@ -17,17 +18,17 @@ use Rattle.arm_bytes.specs.ArmCalls.{loadNumber}
 unfoldable pub aimedNumber : SheetLists → List Float → List Float → List Float → ℕ
 aimedNumber s goals history x =
     firstOf (loadNumber s)
-    (firstOf (firstOf (blockRefusal (joints (s .codes)) x) (blockRefusal (4 * joints (s .codes)) history)) (goalsRefusal (chainsOf (s .sizes)) goals))
+    (firstOf (firstOf (blockRefusal (s .codes) x) (historyRefusal (s .codes) history)) (goalsRefusal (chainsOf (s .sizes)) goals))
 
 -- the objective: then 9 for an output without room for one float
 unfoldable pub objectiveNumber : SheetLists → List Float → List Float → List Float → ℕ → ℕ
-objectiveNumber s goals history x value = firstOf (aimedNumber s goals history x) (roomRefusal 1 value)
+objectiveNumber s goals history x value = firstOf (aimedNumber s goals history x) (roomRefusal valueLength value)
 
 -- a gradient: then 9 for any of its outputs
 unfoldable pub slopesNumber : SheetLists → List Float → List Float → List Float → ℕ → ℕ → ℕ → ℕ
 slopesNumber s goals history x scratch value slopes =
     firstOf (aimedNumber s goals history x)
-    (firstOf (roomRefusal (joints (s .codes)) scratch) (firstOf (roomRefusal 1 value) (roomRefusal (joints (s .codes)) slopes)))
+    (firstOf (roomRefusal (scratchLength (s .codes)) scratch) (firstOf (roomRefusal valueLength value) (roomRefusal (slopesLength (s .codes)) slopes)))
 
 -- ---- what they write, in floats
 -- n floats of a history from at on

@@ -8,7 +8,7 @@ use lib.ListN.{length, drop, length-drop}
 use lib.Seq.{length-take-le}
 use Rattle.sheet.specs.Chain.{joints}
 use Rattle.refusals.specs.Lowest.{first-none}
-use Rattle.refusals.specs.Passed.{load-passed, block-passed, goals-passed}
+use Rattle.refusals.specs.Passed.{load-passed, block-passed, history-passed, goals-passed}
 use Rattle.objective_master.specs.Losses.{given}
 use Rattle.objective_master.specs.Weights.{weightPriors}
 use Rattle.gradient.specs.Gradient.{gradient-length, finite-diff-length}
@@ -42,8 +42,8 @@ aimed-taken s goals history x e =
     let b = first-none _ _ (a .1) in
     let d = first-none _ _ (b .0) in
     let few : n ≤ 16 = load-passed (s .sizes) (s .codes) (s .floats) (s .limits) (a .0) .0 .moving in
-    let block : length x ≡ n = block-passed n x (d .0) in
-    let blocks : length history ≡ 4 * n = block-passed (4 * n) history (d .1) in
+    let block : length x ≡ n = block-passed (s .codes) x (d .0) in
+    let blocks : length history ≡ 4 * n = history-passed (s .codes) history (d .1) in
     let g = goals-passed _ goals (b .1) in
     let l₀ = block-from-length 0 n history (omega (arith, blocks)) in
     let l₁ = block-from-length n n history (omega (arith, blocks)) in

@@ -2,17 +2,17 @@
 -- a ragged output 9. Lower numbers come first, as ever.
 use mathlib.Core.Path.{_≡_, _∙_}
 use mathlib.Core.List.{List}
-use Prim.Native.Nat.{ℕ, suc, _*_, _%_}
+use Prim.Native.Nat.{ℕ, suc, _%_}
 use native.Mathlib.Omega.{arith}
 use lib.Ieee.{Float}
 use lib.ListN.{length}
 use Rattle.sheet.specs.Chain.{joints}
 use Rattle.refusals.specs.Lowest.{first-zero, first-some}
-use Rattle.refusals.specs.Refusal.{chainsOf, blockRefusal}
-use Rattle.lent_bytes.specs.Lent.{floatsIn, roomIn}
+use Rattle.refusals.specs.Refusal.{chainsOf, blockRefusal, historyRefusal}
+use Rattle.lent_bytes.specs.Lent.{Misfit, floatsIn, roomIn, no-floats}
 use Rattle.lent_bytes.specs.SheetLists.{SheetLists}
 use Rattle.arm_bytes.specs.ArmCalls.{loadNumber}
-use Rattle.arm_bytes.specs.Ragged.{Misfit, no-floats, no-block, no-goals, after, ragged-output, second-output, shape, moving}
+use Rattle.arm_bytes.specs.Ragged.{no-block, no-history, no-goals, after, ragged-output, second-output, shape, moving}
 use Rattle.objective_bytes.specs.ObjectiveCalls.{aimedNumber, objectiveNumber, slopesNumber}
 
 -- a call that is refused with one of 1 to 8
@@ -29,16 +29,16 @@ module _ (s : SheetLists) (e : loadNumber s ≡ 0) where
   pub ragged-joints : (goals history : List Float) (b : List ℕ) → Misfit 8 16 (length b) → aimedNumber s goals history (floatsIn 16 b) ≡ 7
   unfolding aimedNumber
   ragged-joints goals history b m =
-      let seven : blockRefusal (joints (s .codes)) (floatsIn 16 b) ≡ 7 = rw (no-floats 16 b m) (no-block (joints (s .codes)) (omega (arith, moving s e))) in
+      let seven : blockRefusal (s .codes) (floatsIn 16 b) ≡ 7 = rw (no-floats 16 b m) (no-block (s .codes) (omega (arith, moving s e))) in
       after _ _ _ 6 e (first-some _ _ (λ z. omega (arith, seven, z)) ∙ seven)
 
-  module _ (x : List Float) (q : blockRefusal (joints (s .codes)) x ≡ 0) where
+  module _ (x : List Float) (q : blockRefusal (s .codes) x ≡ 0) where
     pub ragged-history : (goals : List Float) (b : List ℕ) → Misfit 8 64 (length b) → aimedNumber s goals (floatsIn 64 b) x ≡ 7
     unfolding aimedNumber
     ragged-history goals b m =
-        after _ _ _ 6 e (first-zero _ _ q ∙ rw (no-floats 64 b m) (no-block (4 * joints (s .codes)) (omega (arith, moving s e))))
+        after _ _ _ 6 e (first-zero _ _ q ∙ rw (no-floats 64 b m) (no-history (s .codes) (omega (arith, moving s e))))
 
-    pub ragged-goals : (history : List Float) (b : List ℕ) → blockRefusal (4 * joints (s .codes)) history ≡ 0 → Misfit 8 52 (length b)
+    pub ragged-goals : (history : List Float) (b : List ℕ) → historyRefusal (s .codes) history ≡ 0 → Misfit 8 52 (length b)
         → aimedNumber s (floatsIn 52 b) history x ≡ 8
     unfolding aimedNumber
     ragged-goals history b h m =

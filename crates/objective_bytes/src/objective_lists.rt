@@ -4,10 +4,10 @@ use gradient::gradient as slopes_of;
 use gradient::value as value_of;
 use lent_bytes::lent as bytes_lent;
 use objective_master::weights;
+use refusals::lengths;
 use refusals::lent;
 use refusals::load;
 use refusals::shape;
-use sheet::chain;
 ghost use mathlib.Core.Path.{_≡_};
 ghost use Prim.Native.Nat.{_+_, _*_, _≤_};
 ghost use lib.ListN.{length, take};
@@ -34,9 +34,8 @@ pub fn aimed_number(
     if load != 0 {
         return load;
     }
-    let n = chain::joint_number(codes, codes.len());
-    let first = lent::block_refusal(n, joints);
-    let second = lent::block_refusal(4 * n, history);
+    let first = lent::block_refusal(codes, joints);
+    let second = lent::history_refusal(codes, history);
     let seven = lent::first_of(first, second);
     let eight = lent::goals_refusal(sizes[0] as usize, goals);
     lent::first_of(seven, eight)
@@ -58,7 +57,7 @@ fn slopes_number(
     ensures { λ r. ⌜ r ≡ slopesNumber (sheetOf sizes codes floats limits) (lent goals) (lent history) (lent joints) (roomIn scratch) (roomIn value) (roomIn slopes) ⌝ }
 {
     let aimed = aimed_number(sizes, codes, floats, limits, goals, history, joints);
-    let n = chain::joint_number(codes, codes.len());
+    let n = lengths::block_length(codes);
     let first = lent::room_refusal(n, bytes_lent::room(scratch));
     let second = lent::room_refusal(1, bytes_lent::room(value));
     let third = lent::room_refusal(n, bytes_lent::room(slopes));

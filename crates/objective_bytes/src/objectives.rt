@@ -1,6 +1,7 @@
 // The calls on the objective, as little-endian bytes. The answer is the refusal's number, 0 where the call is accepted.
 use crate::objective_lists;
-use lent_bytes::lent;
+use lent_bytes::sheet_lists;
+use lent_bytes::task_lists;
 ghost use mathlib.Core.Path.{_≡_};
 ghost use Rattle.lent_bytes.specs.SheetLists.{sheetIn, blockIn, goalsIn, historyIn, roomOf};
 ghost use Rattle.arm_bytes.specs.ArmCalls.{outputOf};
@@ -26,13 +27,15 @@ pub fn objective(
     let mut g = [0.0; 52];
     let mut h = [0.0; 64];
     let mut x = [0.0; 16];
-    let ns = lent::numbers(sizes, &mut s);
-    let nc = lent::numbers(codes, &mut c);
-    let nf = lent::floats(floats, &mut f);
-    let nl = lent::floats(limits, &mut l);
-    let ng = lent::floats(goals, &mut g);
-    let nh = lent::floats(history, &mut h);
-    let nx = lent::floats(joints, &mut x);
+    let n = sheet_lists::decode(sizes, codes, floats, limits, &mut s, &mut c, &mut f, &mut l);
+    let ns = n.sizes;
+    let nc = n.codes;
+    let nf = n.floats;
+    let nl = n.limits;
+    let t = task_lists::decode(goals, history, joints, &mut g, &mut h, &mut x);
+    let ng = t.goals;
+    let nh = t.history;
+    let nx = t.joints;
     objective_lists::objective(
         &s[..ns],
         &c[..nc],
@@ -69,13 +72,15 @@ pub fn gradient(
     let mut g = [0.0; 52];
     let mut h = [0.0; 64];
     let mut x = [0.0; 16];
-    let ns = lent::numbers(sizes, &mut s);
-    let nc = lent::numbers(codes, &mut c);
-    let nf = lent::floats(floats, &mut f);
-    let nl = lent::floats(limits, &mut l);
-    let ng = lent::floats(goals, &mut g);
-    let nh = lent::floats(history, &mut h);
-    let nx = lent::floats(joints, &mut x);
+    let n = sheet_lists::decode(sizes, codes, floats, limits, &mut s, &mut c, &mut f, &mut l);
+    let ns = n.sizes;
+    let nc = n.codes;
+    let nf = n.floats;
+    let nl = n.limits;
+    let t = task_lists::decode(goals, history, joints, &mut g, &mut h, &mut x);
+    let ng = t.goals;
+    let nh = t.history;
+    let nx = t.joints;
     objective_lists::gradient(
         &s[..ns],
         &c[..nc],
@@ -114,13 +119,15 @@ pub fn gradient_finite_diff(
     let mut g = [0.0; 52];
     let mut h = [0.0; 64];
     let mut x = [0.0; 16];
-    let ns = lent::numbers(sizes, &mut s);
-    let nc = lent::numbers(codes, &mut c);
-    let nf = lent::floats(floats, &mut f);
-    let nl = lent::floats(limits, &mut l);
-    let ng = lent::floats(goals, &mut g);
-    let nh = lent::floats(history, &mut h);
-    let nx = lent::floats(joints, &mut x);
+    let n = sheet_lists::decode(sizes, codes, floats, limits, &mut s, &mut c, &mut f, &mut l);
+    let ns = n.sizes;
+    let nc = n.codes;
+    let nf = n.floats;
+    let nl = n.limits;
+    let t = task_lists::decode(goals, history, joints, &mut g, &mut h, &mut x);
+    let ng = t.goals;
+    let nh = t.history;
+    let nx = t.joints;
     objective_lists::gradient_finite_diff(
         &s[..ns],
         &c[..nc],

@@ -7,6 +7,7 @@ use lib.Ieee.{Float}
 use lib.ListN.{length, getD}
 use Rattle.sheet.specs.Chain.{chainStart, chain-start-next, joint-le, joints}
 use Rattle.self_collision.specs.Pairs.{Paired, chainLength}
+use Rattle.refusals.specs.Lengths.{scratchLength, slopesLength}
 use Rattle.refusals.specs.Lowest.{firstOf, first-none}
 use Rattle.refusals.specs.Refusal.{chainsOf, linksOf, chainJoints, shapeRefusal, loadRefusal, blockRefusal, roomRefusal}
 use Rattle.refusals.specs.Passed.{Shape, shape-passed, load-first, load-passed, block-passed, room-passed}
@@ -29,12 +30,12 @@ pub record Aimed (ws : List Float) (g : Given) (gs : List Float) : Type 0 where
 
 -- a gradient of joints x with a scratch list and a list of slopes, of so many floats: 7, then 9
 unfoldable pub slopesRefusal : List ℕ → List Float → ℕ → ℕ → ℕ
-slopesRefusal cs x scratch slopes = firstOf (blockRefusal (joints cs) x) (firstOf (roomRefusal (joints cs) scratch) (roomRefusal (joints cs) slopes))
+slopesRefusal cs x scratch slopes = firstOf (blockRefusal cs x) (firstOf (roomRefusal (scratchLength cs) scratch) (roomRefusal (slopesLength cs) slopes))
 
 -- ---- laws: what an accepted call knows
-pub ready-of : (ws : List Float) (g : Given) (gs x : List Float) → Aimed ws g gs → blockRefusal (joints (g .codes)) x ≡ 0 → Ready g gs x
+pub ready-of : (ws : List Float) (g : Given) (gs x : List Float) → Aimed ws g gs → blockRefusal (g .codes) x ≡ 0 → Ready g gs x
 ready-of ws g gs x a e =
-    let n : length x ≡ joints (g .codes) = block-passed (joints (g .codes)) x e in
+    let n : length x ≡ joints (g .codes) = block-passed (g .codes) x e in
     record {
       sheet = sheet-of (g .sizes) (g .codes) gs x (a .arms) e;
       chains = a .arms .chains;
@@ -48,12 +49,12 @@ ready-of ws g gs x a e =
     }
 
 pub slopes-passed : (cs : List ℕ) (x : List Float) (scratch slopes : ℕ) → slopesRefusal cs x scratch slopes ≡ 0
-    → (blockRefusal (joints cs) x ≡ 0) × (length x ≤ scratch) × (length x ≤ slopes)
+    → (blockRefusal cs x ≡ 0) × (length x ≤ scratch) × (length x ≤ slopes)
 unfolding slopesRefusal
 slopes-passed cs x scratch slopes e =
     let a = first-none _ _ e in
     let b = first-none _ _ (a .1) in
-    let n : length x ≡ joints cs = block-passed (joints cs) x (a .0) in
+    let n : length x ≡ joints cs = block-passed cs x (a .0) in
     (a .0, omega (arith, n, room-passed _ scratch (b .0)), omega (arith, n, room-passed _ slopes (b .1)))
 
 -- ---- laws: a sheet that loading takes is such a sheet

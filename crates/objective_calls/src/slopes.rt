@@ -1,8 +1,8 @@
 // `gradient` on two blocks: joints that are read, and a scratch block.
 use calls::answer::Answer;
 use gradient::gradient as two_blocks;
+use refusals::lengths;
 use refusals::lent;
-use sheet::chain;
 ghost use mathlib.Core.Path.{_≡_};
 ghost use lib.ListN.{length};
 ghost use Rattle.lists.specs.Splice.{splice};
@@ -15,8 +15,8 @@ ghost use Rattle.objective_calls.specs.Aimed.{Aimed, slopesRefusal};
 pub(crate) fn slopes_refusal(codes: &[u16], joints: &[f64], scratch: usize, slopes: usize) -> u16
     ensures { λ r. ⌜ r ≡ slopesRefusal (now (codes .entry)) (now (joints .entry)) scratch slopes ⌝ }
 {
-    let n = chain::joint_number(codes, codes.len());
-    let seven = lent::block_refusal(n, joints);
+    let n = lengths::block_length(codes);
+    let seven = lent::block_refusal(codes, joints);
     let first = lent::room_refusal(n, scratch);
     let second = lent::room_refusal(n, slopes);
     lent::first_of(seven, lent::first_of(first, second))

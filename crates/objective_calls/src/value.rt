@@ -2,9 +2,7 @@
 use calls::answer::Answer;
 use gradient::value;
 use refusals::lent;
-use sheet::chain;
 ghost use mathlib.Core.Path.{_≡_};
-ghost use Rattle.sheet.specs.Chain.{joints};
 ghost use Rattle.refusals.specs.Refusal.{blockRefusal};
 ghost use Rattle.objective_master.specs.Losses.{given};
 ghost use Rattle.gradient.specs.Gradient.{valueAt};
@@ -24,11 +22,11 @@ pub fn objective(
     block: &[f64],
 ) -> Answer
     requires { ⌜ Aimed (now weights) (given (now sizes) (now codes) (now limits) (now goals) (now xopt) (now «prev_state») (now «prev_state2»)) (now geo) ⌝ }
-    ensures number { λ r. ⌜ numberOf r ≡ blockRefusal (joints (now (codes .entry))) (now (block .entry)) ⌝ }
+    ensures number { λ r. ⌜ numberOf r ≡ blockRefusal (now (codes .entry)) (now (block .entry)) ⌝ }
     ensures value { λ r. ⌜ answerValue r ≡ valueIf (numberOf r) (valueAt (now (weights .entry)) (given (now (sizes .entry)) (now (codes .entry)) (now (limits .entry)) (now (goals .entry)) (now (xopt .entry)) (now («prev_state» .entry)) (now («prev_state2» .entry))) (now (geo .entry)) (now (block .entry))) ⌝ }
     ensures case { λ r. ⌜ r ≡ answerOf (numberOf r) (answerValue r) ⌝ }
 {
-    let number = lent::block_refusal(chain::joint_number(codes, codes.len()), block);
+    let number = lent::block_refusal(codes, block);
     if number != 0 {
         return Answer::Refused(number);
     }

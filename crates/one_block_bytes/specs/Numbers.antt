@@ -3,7 +3,7 @@ use mathlib.Core.Path.{refl, ap, _∙_}
 use mathlib.Core.List.{List, _∷_}
 use Prim.Native.Nat.{ℕ}
 use lib.Ieee.{Float}
-use Rattle.sheet.specs.Chain.{joints}
+use Rattle.refusals.specs.Lengths.{slopesLength, valueLength}
 use Rattle.refusals.specs.Lowest.{firstOf}
 use Rattle.refusals.specs.Refusal.{roomRefusal}
 use Rattle.refusals.specs.Rows.{Row, upFrom, IsLowest, lowest-row, roomRow, room-row}
@@ -13,14 +13,14 @@ use Rattle.objective_bytes.specs.Numbers.{aimedRows, aimed-then}
 use Rattle.one_block_bytes.specs.OneBlockCalls.{entriesIn, oneBlockNumber}
 
 pub one-block-number-lowest : (s : SheetLists) (goals history x : List Float) (value slopes rj rl rp : ℕ)
-    → IsLowest (aimedRows s goals history x (roomRow 1 value ∷ roomRow (joints (s .codes)) slopes ∷ recordRows (entriesIn s) rj rl rp))
+    → IsLowest (aimedRows s goals history x (roomRow valueLength value ∷ roomRow (slopesLength (s .codes)) slopes ∷ recordRows (entriesIn s) rj rl rp))
     (oneBlockNumber s goals history x value slopes rj rl rp)
 unfolding oneBlockNumber upFrom
 one-block-number-lowest s goals history x value slopes rj rl rp =
-    let k = joints (s .codes) in
+    let k = slopesLength (s .codes) in
     let rest : List Row = recordRows (entriesIn s) rj rl rp in
     lowest-row _ _ refl
     (aimed-then s goals history x _ _
-    (ap (λ (n : ℕ). firstOf (roomRefusal 1 value) (firstOf (roomRefusal k slopes) n)) (record-rows (entriesIn s) rj rl rp)
-    ∙ ap (firstOf (roomRefusal 1 value)) (room-row k slopes rest)
-    ∙ room-row 1 value (roomRow k slopes ∷ rest)))
+    (ap (λ (n : ℕ). firstOf (roomRefusal valueLength value) (firstOf (roomRefusal k slopes) n)) (record-rows (entriesIn s) rj rl rp)
+    ∙ ap (firstOf (roomRefusal valueLength value)) (room-row k slopes rest)
+    ∙ room-row valueLength value (roomRow k slopes ∷ rest)))

@@ -1,10 +1,12 @@
 -- The byte call of the one-block gradient: its number, and its record.
+use mathlib.Core.Path.{_≡_}
 use mathlib.Core.List.{List}
 use Prim.Native.Nat.{ℕ}
+use denote.Ref.{RefT, now}
 use lib.Ieee.{Float}
 use lib.ListN.{length}
 use Rattle.lists.specs.Splice.{splice}
-use Rattle.sheet.specs.Chain.{joints}
+use Rattle.refusals.specs.Lengths.{slopesLength, valueLength}
 use Rattle.refusals.specs.Lowest.{firstOf}
 use Rattle.refusals.specs.Refusal.{linksOf, roomRefusal}
 use Rattle.one_block.specs.Record.{entriesOf, recordJoints, recordLinks, recordPoses}
@@ -12,6 +14,7 @@ use Rattle.calls.specs.Arms.{ifTaken}
 use Rattle.one_block_calls.specs.Room.{recordRefusal}
 use Rattle.lent_bytes.specs.Lent.{numberRoomIn, bytesOfNumbers}
 use Rattle.lent_bytes.specs.SheetLists.{LentList, lent, SheetLists}
+use Rattle.arm_bytes.specs.ArmCalls.{outputOf}
 use Rattle.objective_bytes.specs.ObjectiveCalls.{aimedNumber}
 
 -- the record's entries
@@ -22,7 +25,7 @@ entriesIn s = entriesOf (linksOf (s .sizes)) (s .codes)
 unfoldable pub oneBlockNumber : SheetLists → List Float → List Float → List Float → ℕ → ℕ → ℕ → ℕ → ℕ → ℕ
 oneBlockNumber s goals history x value slopes rj rl rp =
     firstOf (aimedNumber s goals history x)
-    (firstOf (roomRefusal 1 value) (firstOf (roomRefusal (joints (s .codes)) slopes) (recordRefusal (entriesIn s) rj rl rp)))
+    (firstOf (roomRefusal valueLength value) (firstOf (roomRefusal (slopesLength (s .codes)) slopes) (recordRefusal (entriesIn s) rj rl rp)))
 
 -- the record's three lists
 unfoldable pub jointsIn : SheetLists → List ℕ
@@ -41,3 +44,13 @@ numberRoomOf out = numberRoomIn (length (lent out))
 -- an output of u16s after a call of number r: the bytes at its front, its tail kept; as it was where the call is refused
 abbrev pub numbersOutputOf : {X : Type 0} → ℕ → LentList ℕ X → List ℕ → List ℕ
 numbersOutputOf r out answer = ifTaken r (lent out) (splice (lent out) 0 (bytesOfNumbers answer))
+
+-- the record's three lists at the fronts of three lists
+abbrev pub RecordHeld : SheetLists → List Float → LentList ℕ (RefT (List ℕ)) → LentList ℕ (RefT (List ℕ)) → LentList Float (RefT (List Float)) → Type 0
+RecordHeld s x joints links poses =
+    (now (joints .exit) ≡ splice (lent joints) 0 (jointsIn s)) × (now (links .exit) ≡ splice (lent links) 0 (linksIn s)) × (now (poses .exit) ≡ splice (lent poses) 0 (posesIn s x))
+
+-- and as bytes in three outputs, after a call of number r
+abbrev pub RecordWritten : ℕ → SheetLists → List Float → LentList ℕ (RefT (List ℕ)) → LentList ℕ (RefT (List ℕ)) → LentList ℕ (RefT (List ℕ)) → Type 0
+RecordWritten r s x joints links poses =
+    (now (joints .exit) ≡ numbersOutputOf r joints (jointsIn s)) × (now (links .exit) ≡ numbersOutputOf r links (linksIn s)) × (now (poses .exit) ≡ outputOf r poses (posesIn s x))

@@ -4,9 +4,9 @@ use objective_bytes::objective_lists;
 use objective_master::weights;
 use one_block::grad;
 use one_block_calls::slopes as room;
+use refusals::lengths;
 use refusals::lent;
 use refusals::shape;
-use sheet::chain;
 ghost use mathlib.Core.Path.{_≡_};
 ghost use mathlib.Core.List.{[], _∷_};
 ghost use Prim.Native.Nat.{_*_, _≤_};
@@ -16,7 +16,7 @@ ghost use Rattle.lent_bytes.specs.Lent.{roomIn, numberRoomIn, bytesOf, bytesOfN
 ghost use Rattle.lent_bytes.specs.SheetLists.{lent, sheetWith, sheetOf, roomOf};
 ghost use Rattle.arm_bytes.specs.ArmCalls.{outputOf};
 ghost use Rattle.objective_bytes.specs.ObjectiveCalls.{aimedNumber, valueIn, objectiveValue, gradientSlopes};
-ghost use Rattle.one_block_bytes.specs.OneBlockCalls.{entriesIn, oneBlockNumber, jointsIn, linksIn, posesIn, numberRoomOf, numbersOutputOf};
+ghost use Rattle.one_block_bytes.specs.OneBlockCalls.{entriesIn, oneBlockNumber, numberRoomOf, RecordHeld, RecordWritten};
 ghost use Rattle.one_block_bytes.specs.OneBlockLaws.{Counted};
 
 fn entries(sizes: &[u16], codes: &[u16], floats: &[f64], limits: &[f64]) -> usize
@@ -48,7 +48,7 @@ fn one_block_number(
     if aimed != 0 {
         return aimed;
     }
-    let n = chain::joint_number(codes, codes.len());
+    let n = lengths::block_length(codes);
     let first = lent::room_refusal(1, bytes_lent::room(value));
     let second = lent::room_refusal(n, bytes_lent::room(slopes));
     let third = room::record_refusal(
@@ -79,9 +79,7 @@ fn one_block_on(
     ensures { λ r. ⌜ r ≡ valueIn (sheetOf sizes codes floats limits) (lent goals) (lent history) (lent block) ⌝ }
     ensures { λ _. ⌜ now (block .exit) ≡ now (block .entry) ⌝ }
     ensures { λ _. ⌜ now (slopes .exit) ≡ splice (lent slopes) 0 (gradientSlopes (sheetOf sizes codes floats limits) (lent goals) (lent history) (lent block)) ⌝ }
-    ensures { λ _. ⌜ (now («record_joints» .exit) ≡ splice (lent «record_joints») 0 (jointsIn (sheetOf sizes codes floats limits)))
-        × (now («record_links» .exit) ≡ splice (lent «record_links») 0 (linksIn (sheetOf sizes codes floats limits)))
-        × (now («record_poses» .exit) ≡ splice (lent «record_poses») 0 (posesIn (sheetOf sizes codes floats limits) (lent block))) ⌝ }
+    ensures { λ _. ⌜ RecordHeld (sheetOf sizes codes floats limits) (lent block) «record_joints» «record_links» «record_poses» ⌝ }
 {
     let w = weights::weight_priors();
     let counts = shape::links(sizes);
@@ -161,9 +159,7 @@ pub(crate) fn gradient_one_block(
         (roomOf value) (roomOf slopes) (numberRoomOf «record_joints») (numberRoomOf «record_links») (roomOf «record_poses») ⌝ }
     ensures value { λ r. ⌜ now (value .exit) ≡ outputOf r value (objectiveValue (sheetOf sizes codes floats limits) (lent goals) (lent history) (take n (lent x))) ⌝ }
     ensures slopes { λ r. ⌜ now (slopes .exit) ≡ outputOf r slopes (gradientSlopes (sheetOf sizes codes floats limits) (lent goals) (lent history) (take n (lent x))) ⌝ }
-    ensures record { λ r. ⌜ (now («record_joints» .exit) ≡ numbersOutputOf r «record_joints» (jointsIn (sheetOf sizes codes floats limits)))
-        × (now («record_links» .exit) ≡ numbersOutputOf r «record_links» (linksIn (sheetOf sizes codes floats limits)))
-        × (now («record_poses» .exit) ≡ outputOf r «record_poses» (posesIn (sheetOf sizes codes floats limits) (take n (lent x)))) ⌝ }
+    ensures record { λ r. ⌜ RecordWritten r (sheetOf sizes codes floats limits) (take n (lent x)) «record_joints» «record_links» «record_poses» ⌝ }
 {
     let number = one_block_number(
         sizes,

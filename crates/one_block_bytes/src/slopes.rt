@@ -1,11 +1,12 @@
 // The gradient on one block, as little-endian bytes. The answer is the refusal's number, 0 where the call is accepted.
 use crate::one_block_lists;
-use lent_bytes::lent;
+use lent_bytes::sheet_lists;
+use lent_bytes::task_lists;
 ghost use mathlib.Core.Path.{_≡_};
 ghost use Rattle.lent_bytes.specs.SheetLists.{sheetIn, blockIn, goalsIn, historyIn, roomOf};
 ghost use Rattle.arm_bytes.specs.ArmCalls.{outputOf};
 ghost use Rattle.objective_bytes.specs.ObjectiveCalls.{objectiveValue, gradientSlopes};
-ghost use Rattle.one_block_bytes.specs.OneBlockCalls.{oneBlockNumber, jointsIn, linksIn, posesIn, numberRoomOf, numbersOutputOf};
+ghost use Rattle.one_block_bytes.specs.OneBlockCalls.{oneBlockNumber, numberRoomOf, RecordWritten};
 
 // The joints are decoded once, into the block that is raised; their bytes are only read.
 pub fn gradient_one_block(
@@ -26,9 +27,7 @@ pub fn gradient_one_block(
         (roomOf value) (roomOf slopes) (numberRoomOf «record_joints») (numberRoomOf «record_links») (roomOf «record_poses») ⌝ }
     ensures value { λ r. ⌜ now (value .exit) ≡ outputOf r value (objectiveValue (sheetIn sizes codes floats limits) (goalsIn goals) (historyIn history) (blockIn joints)) ⌝ }
     ensures slopes { λ r. ⌜ now (slopes .exit) ≡ outputOf r slopes (gradientSlopes (sheetIn sizes codes floats limits) (goalsIn goals) (historyIn history) (blockIn joints)) ⌝ }
-    ensures record { λ r. ⌜ (now («record_joints» .exit) ≡ numbersOutputOf r «record_joints» (jointsIn (sheetIn sizes codes floats limits)))
-        × (now («record_links» .exit) ≡ numbersOutputOf r «record_links» (linksIn (sheetIn sizes codes floats limits)))
-        × (now («record_poses» .exit) ≡ outputOf r «record_poses» (posesIn (sheetIn sizes codes floats limits) (blockIn joints))) ⌝ }
+    ensures record { λ r. ⌜ RecordWritten r (sheetIn sizes codes floats limits) (blockIn joints) «record_joints» «record_links» «record_poses» ⌝ }
 {
     let mut s = [0u16; 5];
     let mut c = [0u16; 64];
@@ -37,13 +36,15 @@ pub fn gradient_one_block(
     let mut g = [0.0; 52];
     let mut h = [0.0; 64];
     let mut x = [0.0; 16];
-    let ns = lent::numbers(sizes, &mut s);
-    let nc = lent::numbers(codes, &mut c);
-    let nf = lent::floats(floats, &mut f);
-    let nl = lent::floats(limits, &mut l);
-    let ng = lent::floats(goals, &mut g);
-    let nh = lent::floats(history, &mut h);
-    let nx = lent::floats(joints, &mut x);
+    let n = sheet_lists::decode(sizes, codes, floats, limits, &mut s, &mut c, &mut f, &mut l);
+    let ns = n.sizes;
+    let nc = n.codes;
+    let nf = n.floats;
+    let nl = n.limits;
+    let t = task_lists::decode(goals, history, joints, &mut g, &mut h, &mut x);
+    let ng = t.goals;
+    let nh = t.history;
+    let nx = t.joints;
     one_block_lists::gradient_one_block(
         &s[..ns],
         &c[..nc],

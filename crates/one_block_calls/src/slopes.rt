@@ -1,8 +1,8 @@
 // The gradient on one block, which is raised and put back joint after joint, and its record.
 use calls::answer::Answer;
 use one_block::grad;
+use refusals::lengths;
 use refusals::lent;
-use sheet::chain;
 ghost use mathlib.Core.Path.{_≡_};
 ghost use Prim.Native.Nat.{_≤_};
 ghost use lib.ListN.{length};
@@ -21,7 +21,7 @@ pub fn record_refusal(entries: usize, joints: usize, links: usize, poses: usize)
 {
     let first = lent::room_refusal(entries, joints);
     let second = lent::room_refusal(entries, links);
-    let third = lent::room_refusal(7 * entries, poses);
+    let third = lent::room_refusal(lengths::record_poses_length(entries), poses);
     lent::first_of(first, lent::first_of(second, third))
 }
 
@@ -38,9 +38,8 @@ fn one_block_refusal(
     requires { ⌜ Accepted (now sizes) (now codes) (now geo) ⌝ }
     ensures { λ r. ⌜ r ≡ oneBlockRefusal (now (sizes .entry)) (now (codes .entry)) (now (block .entry)) slopes «record_joints» «record_links» «record_poses» ⌝ }
 {
-    let n = chain::joint_number(codes, codes.len());
-    let seven = lent::block_refusal(n, block);
-    let room = lent::room_refusal(n, slopes);
+    let seven = lent::block_refusal(codes, block);
+    let room = lent::room_refusal(lengths::block_length(codes), slopes);
     let entries = grad::entries(sizes, codes);
     let record = record_refusal(entries, record_joints, record_links, record_poses);
     lent::first_of(seven, lent::first_of(room, record))

@@ -1,5 +1,8 @@
 pub mod Range
 pub mod Lowest
+pub mod Lengths
 pub mod Refusal
+pub mod Turn
 pub mod Passed
+pub mod Plain
 pub mod Rows

@@ -82,3 +82,8 @@ first-some a b h = rw (ne-eqb a 0 h)
 pub first-none : (a b : ℕ) → firstOf a b ≡ 0 → (a ≡ 0) × (b ≡ 0)
 first-none zero b e = (refl, sym (first-zero 0 b refl) ∙ e)
 first-none (suc a) b e = absurd (omega (arith, first-some (suc a) b (λ z. omega arith)))
+
+-- the last of a call's numbers
+pub first-last : (a b : ℕ) → b ≡ 0 → firstOf a b ≡ a
+first-last zero b e = first-zero 0 b refl ∙ e
+first-last (suc a) b e = first-some (suc a) b (λ z. omega arith)

@@ -7,11 +7,11 @@ use native.Mathlib.Omega.{arith}
 use lib.Dec.{leb, eqb}
 use lib.Ieee.{Float}
 use lib.ListN.{length, getD, length-drop}
-use borrow.Author.Tests.{ltb-false, leb-true, eqb-true, ne-eqb, not-false}
+use borrow.Author.Tests.{ltb-false, le-ltb, leb-true, eqb-true, ne-eqb, not-false}
 use Rattle.sheet.specs.Chain.{total, joints}
 use Rattle.refusals.specs.Range.{every-at, between, and-true}
 use Rattle.refusals.specs.Lowest.{lowestFrom, lowest, lowest-found, lowest-none, none-lowest, firstOf, first-none}
-use Rattle.refusals.specs.Refusal.{chainsOf, linksOf, linksFit, badSizes, badLengths, listedCode, listedAt, badCodes, chainJoints, twoJoints, laterFits, badJoints, badLimits, badFloats, badBlock, badGoals, shapeConditions, shapeRefusal, loadConditions, loadRefusal, blockRefusal, goalsRefusal, roomRefusal}
+use Rattle.refusals.specs.Refusal.{chainsOf, linksOf, linksFit, badSizes, badLengths, listedCode, listedAt, badCodes, chainJoints, twoJoints, laterFits, badJoints, badLimits, badFloats, badBlock, badHistory, badGoals, shapeConditions, shapeRefusal, loadConditions, loadRefusal, blockRefusal, historyRefusal, goalsRefusal, roomRefusal}
 
 -- ---- loading: the number is that of the lowest condition that holds, and 0 exactly if none does
 module _ (sizes codes : List ℕ) (floats limits : List Float) where
@@ -148,9 +148,13 @@ load-passed sizes codes floats limits e =
     let a = first-none _ _ (sym (load-first sizes codes floats limits) ∙ e) in
     (shape-passed sizes codes (length floats) (a .0), limits-passed (joints codes) limits (load-none sizes codes floats limits e 4))
 
-pub block-passed : (joints : ℕ) (x : List Float) → blockRefusal joints x ≡ 0 → length x ≡ joints
+pub block-passed : (codes : List ℕ) (x : List Float) → blockRefusal codes x ≡ 0 → length x ≡ joints codes
 unfolding blockRefusal badBlock
-block-passed joints x e = eqb-true _ _ (not-false _ (or-none _ _ (passed _ 6 e) .0))
+block-passed codes x e = eqb-true _ _ (not-false _ (or-none _ _ (passed _ 6 e) .0))
+
+pub history-passed : (codes : List ℕ) (history : List Float) → historyRefusal codes history ≡ 0 → length history ≡ 4 * joints codes
+unfolding historyRefusal badHistory
+history-passed codes history e = eqb-true _ _ (not-false _ (or-none _ _ (passed _ 6 e) .0))
 
 pub goals-passed : (chains : ℕ) (goals : List Float) → goalsRefusal chains goals ≡ 0 → length goals ≡ 13 * chains
 unfolding goalsRefusal badGoals
@@ -159,3 +163,8 @@ goals-passed chains goals e = eqb-true _ _ (not-false _ (or-none _ _ (passed _ 7
 pub room-passed : (needed have : ℕ) → roomRefusal needed have ≡ 0 → needed ≤ have
 unfolding roomRefusal
 room-passed needed have e = ltb-false have needed (passed _ 8 e)
+
+-- a list with room for all that is needed
+pub room-enough : (needed have : ℕ) → needed ≤ have → roomRefusal needed have ≡ 0
+unfolding roomRefusal
+room-enough needed have h = rw (le-ltb have needed h)

@@ -68,3 +68,24 @@ module _ (f : ℕ → Bool) where
       (λ (q : suc i ≡ suc n). let s : i ≡ n = omega arith in rw s (b .1))
       (λ (l : suc i < suc n). every-at n i (b .0) (omega arith))
       (eq-or-lt-of-le h)
+
+pub every-ext : (f g : ℕ → Bool) (n : ℕ) → ((i : ℕ) → f i ≡ g i) → every f n ≡ every g n
+unfolding every
+every-ext f g zero same = refl
+every-ext f g (suc n) same = ap (λ (b : Bool). b && f n) (every-ext f g n same) ∙ ap (λ (b : Bool). every g n && b) (same n)
+
+and-assoc : (a b c : Bool) → ((a && b) && c) ≡ (a && (b && c))
+and-assoc true b c = refl
+and-assoc false b c = refl
+
+-- a run and the one behind it
+pub every-join : (f : ℕ → Bool) (m n : ℕ) → every f (m + n) ≡ (every f m && every (λ (i : ℕ). f (m + i)) n)
+unfolding every
+every-join f m zero = let z : m + 0 ≡ m = omega arith in rw z (and-right (every f m))
+  where
+    and-right : (b : Bool) → b ≡ (b && true)
+    and-right true = refl
+    and-right false = refl
+every-join f m (suc n) =
+    let e : m + suc n ≡ suc (m + n) = omega arith in
+    ap (every f) e ∙ ap (λ (b : Bool). b && f (m + n)) (every-join f m n) ∙ and-assoc (every f m) (every (λ (i : ℕ). f (m + i)) n) (f (m + n))

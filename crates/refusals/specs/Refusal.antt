@@ -3,15 +3,17 @@ use mathlib.Core.Bool.{Bool, true, false, cond, not, _&&_, _||_}
 use mathlib.Core.List.{List, [], _∷_, _++_}
 use Prim.Native.Nat.{ℕ, _+_, _-_, _*_}
 use lib.Dec.{eqb, leb, ltb}
-use lib.Ieee.{Float, binary64, ofBits, neg, eq, le, nan}
+use lib.Ieee.{Float, binary64, ofBits, le, nan}
 use lib.ListN.{length, getD, drop}
 use Rattle.standins.specs.Num.{_⊖_}
 use Rattle.sheet.specs.declared.code.Kind.{Kind}
 use Rattle.sheet.specs.declared.code.Kind.the-variants.{Fixed, Turning, Sliding, Unlisted}
-use Rattle.sheet.specs.Code.{kindOf}
+use Rattle.sheet.specs.Code.{hasJoint, kindOf}
 use Rattle.sheet.specs.Chain.{total, chainStart, jointOf, joints}
+use Rattle.groove.specs.Loss.{freeOf}
 use Rattle.refusals.specs.Range.{every, between, within, withinAt, unitAt}
 use Rattle.refusals.specs.Lowest.{lowest}
+use Rattle.refusals.specs.Lengths.{blockLength, historyLength}
 
 -- the sizes list: the chain count, then the links per chain
 abbrev pub chainsOf : List ℕ → ℕ
@@ -72,10 +74,6 @@ unfoldable pub badJoints : List ℕ → List ℕ → Bool
 badJoints ns codes =
     not (every (twoJoints ns codes) (length ns)) || ltb 16 (joints codes) || not (every (laterFits ns codes) (length ns))
 
--- exactly -999, 999
-unfoldable pub freePair : Float → Float → Bool
-freePair lower upper = eq lower (neg (ofBits binary64 0x408f_3800_0000_0000)) && eq upper (ofBits binary64 0x408f_3800_0000_0000)
-
 -- 100
 abbrev pub hundred : Float
 hundred = ofBits binary64 0x4059_0000_0000_0000
@@ -84,9 +82,9 @@ hundred = ofBits binary64 0x4059_0000_0000_0000
 unfoldable pub rangedPair : Float → Float → Bool
 rangedPair lower upper = within hundred lower && within hundred upper && le (ofBits binary64 0x3f50_624d_d2f1_a9fc) (upper ⊖ lower)
 
--- one or the other
+-- exactly -999, 999, or such a range
 unfoldable pub pairFits : Float → Float → Bool
-pairFits lower upper = freePair lower upper || rangedPair lower upper
+pairFits lower upper = freeOf lower upper || rangedPair lower upper
 
 -- joint j's pair fits: lower, then upper
 unfoldable pub limitsFit : List Float → ℕ → Bool
@@ -104,9 +102,37 @@ linkFits floats l = every (withinAt (ofBits binary64 0x4024_0000_0000_0000) floa
 unfoldable pub badFloats : ℕ → List Float → Bool
 badFloats links floats = not (every (linkFits floats) links)
 
--- 7. Joint block of wrong length, or a value not within -8..8.
-unfoldable pub badBlock : ℕ → List Float → Bool
-badBlock joints x = not (eqb (length x) joints) || not (every (withinAt (ofBits binary64 0x4020_0000_0000_0000) x 0) joints)
+-- 8
+abbrev pub eight : Float
+eight = ofBits binary64 0x4020_0000_0000_0000
+
+-- the value of a joint is in the range of its link's code: within -8..8 whatever the code
+unfoldable pub jointFits : ℕ → Float → Bool
+jointFits code v = within eight v
+
+-- the value at a place fits a link of that code; a fixed link has no joint and asks nothing
+unfoldable pub valueFits : ℕ → List Float → ℕ → Bool
+valueFits code xs at = cond (hasJoint code) (jointFits code (getD xs at nan)) true
+
+-- link l's joint fits, in the joint block that starts at at
+unfoldable pub linkValueFits : List ℕ → List Float → ℕ → ℕ → Bool
+linkValueFits codes xs at l = valueFits (getD codes l 0) xs (at + jointOf codes l)
+
+-- every joint of the block that starts at at
+unfoldable pub blockFits : List ℕ → List Float → ℕ → Bool
+blockFits codes xs at = every (linkValueFits codes xs at) (length codes)
+
+-- 7. Joint block of wrong length, or a value not within its joint's range.
+unfoldable pub badBlock : List ℕ → List Float → Bool
+badBlock codes x = not (eqb (length x) (blockLength codes)) || not (blockFits codes x 0)
+
+-- number b of the blocks of a history
+unfoldable pub historyFits : List ℕ → List Float → ℕ → Bool
+historyFits codes history b = blockFits codes history (b * blockLength codes)
+
+-- 7. History of wrong length, or one of its four blocks with a value not within its joint's range.
+unfoldable pub badHistory : List ℕ → List Float → Bool
+badHistory codes history = not (eqb (length history) (historyLength codes)) || not (every (historyFits codes history) 4)
 
 -- chain c's 13 floats fit: the position within -100..100, the six tolerances after the quaternion too, the quaternion's squares' sum near 1
 unfoldable pub goalFits : List Float → ℕ → Bool
@@ -135,8 +161,12 @@ unfoldable pub loadRefusal : List ℕ → List ℕ → List Float → List Float
 loadRefusal sizes codes floats limits = lowest (loadConditions sizes codes floats limits)
 
 -- of a joint block
-unfoldable pub blockRefusal : ℕ → List Float → ℕ
-blockRefusal joints x = cond (badBlock joints x) 7 0
+unfoldable pub blockRefusal : List ℕ → List Float → ℕ
+blockRefusal codes x = cond (badBlock codes x) 7 0
+
+-- of a history, which is four joint blocks
+unfoldable pub historyRefusal : List ℕ → List Float → ℕ
+historyRefusal codes history = cond (badHistory codes history) 7 0
 
 -- of goals
 unfoldable pub goalsRefusal : ℕ → List Float → ℕ

@@ -12,8 +12,8 @@ use lib.ListN.{length, getD}
 use borrow.Author.Tests.{leb-true, le-leb}
 use Rattle.sheet.specs.Chain.{joints}
 use Rattle.refusals.specs.Range.{and-true}
-use Rattle.refusals.specs.Lowest.{lowestFrom, lowest, firstOf, first-zero, first-some}
-use Rattle.refusals.specs.Refusal.{linksOf, badSizes, badLengths, badCodes, badJoints, badLimits, badFloats, badBlock, badGoals, loadRefusal, blockRefusal, goalsRefusal, roomRefusal}
+use Rattle.refusals.specs.Lowest.{lowestFrom, lowest, firstOf, first-zero, first-some, first-last}
+use Rattle.refusals.specs.Refusal.{linksOf, badSizes, badLengths, badCodes, badJoints, badLimits, badFloats, badBlock, badHistory, badGoals, loadRefusal, blockRefusal, historyRefusal, goalsRefusal, roomRefusal}
 
 -- a condition and the number with which it refuses
 pub record Row : Type 0 where
@@ -59,8 +59,11 @@ loadRows sizes codes floats limits =
     row 1 (badSizes sizes) ∷ row 2 (badLengths (linksOf sizes) codes (length floats)) ∷ row 3 (badCodes codes) ∷ row 4 (badJoints (linksOf sizes) codes)
     ∷ row 5 (badLimits (joints codes) limits) ∷ row 6 (badFloats (length codes) floats) ∷ []
 
-abbrev pub blockRow : ℕ → List Float → Row
-blockRow joints x = row 7 (badBlock joints x)
+abbrev pub blockRow : List ℕ → List Float → Row
+blockRow codes x = row 7 (badBlock codes x)
+
+abbrev pub historyRow : List ℕ → List Float → Row
+historyRow codes history = row 7 (badHistory codes history)
 
 abbrev pub goalsRow : ℕ → List Float → Row
 goalsRow chains goals = row 8 (badGoals chains goals)
@@ -126,9 +129,14 @@ pub then-row : (k : ℕ) (b : Bool) (rs : List Row) → firstOf (cond b (suc k) 
 unfolding firstRow
 then-row k b rs = first-cond b k (firstRow rs)
 
-pub block-row : (joints : ℕ) (x : List Float) (rs : List Row) → firstOf (blockRefusal joints x) (firstRow rs) ≡ firstRow (blockRow joints x ∷ rs)
+pub block-row : (codes : List ℕ) (x : List Float) (rs : List Row) → firstOf (blockRefusal codes x) (firstRow rs) ≡ firstRow (blockRow codes x ∷ rs)
 unfolding blockRefusal
-block-row joints x rs = then-row 6 (badBlock joints x) rs
+block-row codes x rs = then-row 6 (badBlock codes x) rs
+
+pub history-row : (codes : List ℕ) (history : List Float) (rs : List Row)
+    → firstOf (historyRefusal codes history) (firstRow rs) ≡ firstRow (historyRow codes history ∷ rs)
+unfolding historyRefusal
+history-row codes history rs = then-row 6 (badHistory codes history) rs
 
 pub goals-row : (chains : ℕ) (goals : List Float) (rs : List Row) → firstOf (goalsRefusal chains goals) (firstRow rs) ≡ firstRow (goalsRow chains goals ∷ rs)
 unfolding goalsRefusal
@@ -138,11 +146,10 @@ pub room-row : (needed have : ℕ) (rs : List Row) → firstOf (roomRefusal need
 unfolding roomRefusal
 room-row needed have rs = then-row 8 (ltb have needed) rs
 
--- the last of a call's numbers
-pub first-last : (a : ℕ) → a ≡ firstOf a (firstRow [])
+-- a number with no more to come
+pub alone : (a n : ℕ) → firstOf a (firstRow []) ≡ n → a ≡ n
 unfolding firstRow
-first-last zero = sym (first-zero 0 0 refl)
-first-last (suc a) = sym (first-some (suc a) 0 (λ z. omega arith))
+alone a n e = sym (first-last a 0 refl) ∙ e
 
 -- ---- loading, alone and before a call's own rows
 load-then : (a b c d e f : Bool) (n : ℕ) → firstOf (lowest (a ∷ b ∷ c ∷ d ∷ e ∷ f ∷ [])) n
@@ -163,4 +170,4 @@ module _ (sizes codes : List ℕ) (floats limits : List Float) where
 
   pub load-lowest : IsLowest (loadRows sizes codes floats limits) (loadRefusal sizes codes floats limits)
   unfolding upFrom
-  load-lowest = lowest-row _ _ refl (first-last (loadRefusal sizes codes floats limits) ∙ load-row [])
+  load-lowest = lowest-row _ _ refl (alone _ _ (load-row []))

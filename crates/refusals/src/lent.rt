@@ -1,10 +1,16 @@
 // Refusals 7 to 9: what a call is lent beside the sheet. A call's number is the first of those that apply, in order.
+use crate::lengths;
 use crate::range;
+use sheet::chain;
+use sheet::code;
+use sheet::reader;
 ghost use mathlib.Core.Path.{_≡_};
 ghost use Prim.Native.Nat.{_+_, _*_, _≤_};
 ghost use lib.ListN.{length};
 ghost use Rattle.refusals.specs.Lowest.{firstOf};
-ghost use Rattle.refusals.specs.Refusal.{blockRefusal, goalFits, goalsRefusal, roomRefusal};
+ghost use Rattle.sheet.specs.Chain.{jointsOf};
+ghost use Rattle.refusals.specs.Lengths.{blockLength};
+ghost use Rattle.refusals.specs.Refusal.{jointFits, valueFits, blockFits, blockRefusal, historyRefusal, goalFits, goalsRefusal, roomRefusal};
 
 pub fn first_of(a: u16, b: u16) -> u16
     ensures { λ r. ⌜ r ≡ firstOf a b ⌝ }
@@ -12,16 +18,66 @@ pub fn first_of(a: u16, b: u16) -> u16
     if a == 0 { b } else { a }
 }
 
-pub fn block_refusal(joints: usize, block: &[f64]) -> u16
-    ensures { λ r. ⌜ r ≡ blockRefusal joints (now (block .entry)) ⌝ }
+// The range of a joint, by its link's code.
+fn joint_fits(code: u16, value: f64) -> bool
+    ensures { λ r. ⌜ r ≡ jointFits code value ⌝ }
 {
-    if block.len() != joints {
+    range::is_within(8.0, value)
+}
+
+fn value_fits(code: u16, list: &[f64], at: usize) -> bool
+    requires { ⌜ at + jointsOf code ≤ length (now list) ⌝ }
+    ensures { λ r. ⌜ r ≡ valueFits code (now (list .entry)) at ⌝ }
+{
+    if !code::has_joint(code) {
+        return true;
+    }
+    joint_fits(code, list[at])
+}
+
+// Whether every joint of the block that starts at `at` is in its range.
+fn block_fits(codes: &[u16], list: &[f64], at: usize) -> bool
+    requires { ⌜ at + blockLength (now codes) ≤ length (now list) ⌝ }
+    ensures { λ r. ⌜ r ≡ blockFits (now (codes .entry)) (now (list .entry)) at ⌝ }
+{
+    let mut ok = true;
+    let mut j = at;
+    let mut l: usize = 0;
+    while l < codes.len() {
+        ok = range::both(ok, value_fits(reader::read(codes, l), list, j));
+        j = chain::next_joint(codes, l, j);
+        l += 1;
+    }
+    ok
+}
+
+pub fn block_refusal(codes: &[u16], block: &[f64]) -> u16
+    ensures { λ r. ⌜ r ≡ blockRefusal (now (codes .entry)) (now (block .entry)) ⌝ }
+{
+    if block.len() != lengths::block_length(codes) {
         return 7;
     }
-    if range::all_within(8.0, block, 0, joints) {
+    if block_fits(codes, block, 0) {
         return 0;
     }
     7
+}
+
+// A history is four joint blocks.
+pub fn history_refusal(codes: &[u16], history: &[f64]) -> u16
+    ensures { λ r. ⌜ r ≡ historyRefusal (now (codes .entry)) (now (history .entry)) ⌝ }
+{
+    let n = lengths::block_length(codes);
+    if history.len() != lengths::history_length(codes) {
+        return 7;
+    }
+    let mut ok = true;
+    let mut b: usize = 0;
+    while b < 4 {
+        ok = range::both(ok, block_fits(codes, history, b * n));
+        b += 1;
+    }
+    if ok { 0 } else { 7 }
 }
 
 fn goal_fits(goals: &[f64], chain: usize) -> bool

@@ -1,4 +1,5 @@
 // The numbers with which bad input is refused: 0 is accepted, and the lowest number wins.
+pub mod lengths;
 pub mod lent;
 pub mod load;
 mod range;

@@ -7,10 +7,11 @@ ghost use mathlib.Core.Path.{_≡_};
 ghost use mathlib.Core.Bool.{cond};
 ghost use Prim.Native.Nat.{_+_, _*_, _≤_};
 ghost use lib.ListN.{length};
-ghost use Rattle.refusals.specs.Refusal.{freePair, rangedPair, pairFits, badLimits, linkFits, badFloats, loadRefusal};
+ghost use Rattle.groove.specs.Loss.{freeOf};
+ghost use Rattle.refusals.specs.Refusal.{rangedPair, pairFits, badLimits, linkFits, badFloats, loadRefusal};
 
 fn free(lower: f64, upper: f64) -> bool
-    ensures { λ r. ⌜ r ≡ freePair lower upper ⌝ }
+    ensures { λ r. ⌜ r ≡ freeOf lower upper ⌝ }
 {
     lower == -999.0 && upper == 999.0
 }

@@ -3,6 +3,7 @@ use crate::range;
 use sheet::chain;
 use sheet::code;
 use sheet::code::Kind;
+use sheet::reader;
 ghost use mathlib.Core.Path.{_≡_};
 ghost use Prim.Native.Nat.{_≤_, _<_};
 ghost use mathlib.Core.Bool.{_||_};
@@ -78,7 +79,7 @@ fn bad_codes(codes: &[u16]) -> bool
     let mut ok = true;
     let mut l: usize = 0;
     while l < codes.len() {
-        ok = range::both(ok, is_listed(codes[l]));
+        ok = range::both(ok, is_listed(reader::read(codes, l)));
         l += 1;
     }
     !ok

@@ -7,7 +7,7 @@ use native.Mathlib.Omega.{arith}
 use lib.Ieee.{Float}
 use lib.ListN.{length, take, drop, getD}
 use lib.Seq.{length-take-le}
-use Rattle.sheet.specs.Chain.{total, joints}
+use Rattle.sheet.specs.Chain.{total}
 use Rattle.refusals.specs.Lowest.{firstOf, first-zero, first-some}
 use Rattle.refusals.specs.Refusal.{shapeRefusal, blockRefusal}
 use Rattle.refusals.specs.Passed.{Shape, shape-passed}
@@ -27,7 +27,7 @@ ifAimed ss cs goals started number = firstOf (aimNumber (haveSheet ss cs) goals 
 
 -- 20, 21, 22, then 7
 unfoldable pub objectiveKept : List ℕ → List ℕ → Bool → Bool → List Float → ℕ
-objectiveKept ss cs goals started x = ifAimed ss cs goals started (blockRefusal (joints (codesUsed ss cs)) x)
+objectiveKept ss cs goals started x = ifAimed ss cs goals started (blockRefusal (codesUsed ss cs) x)
 
 -- 20, 21, 22, then 7, then 9
 unfoldable pub slopesKept : List ℕ → List ℕ → Bool → Bool → List Float → ℕ → ℕ → ℕ

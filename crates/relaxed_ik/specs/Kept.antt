@@ -11,7 +11,7 @@ use lib.Ieee.{Float}
 use lib.ListN.{length, take, drop, getD, length-take}
 use lib.Seq.{length-take-le}
 use Rattle.geometry.specs.declared.pose.Pose.{Pose}
-use Rattle.sheet.specs.Chain.{total, joints}
+use Rattle.sheet.specs.Chain.{total}
 use Rattle.spacetime.specs.Walk.{poseOf}
 use Rattle.manipulability.specs.Jacobian.{manipulabilityOf}
 use Rattle.refusals.specs.Refusal.{shapeRefusal, blockRefusal, goalsRefusal}
@@ -32,7 +32,7 @@ poseKept ss cs x n = ifArms ss cs (poseRefusal (linksUsed ss) (codesUsed ss cs) 
 
 -- 20, then 7
 unfoldable pub blockKept : List ℕ → List ℕ → List Float → ℕ
-blockKept ss cs x = ifArms ss cs (blockRefusal (joints (codesUsed ss cs)) x)
+blockKept ss cs x = ifArms ss cs (blockRefusal (codesUsed ss cs) x)
 
 -- 20, then 8
 unfoldable pub goalsKept : List ℕ → List ℕ → List Float → ℕ
@@ -40,7 +40,7 @@ goalsKept ss cs goals = ifArms ss cs (goalsRefusal (getD ss 0 0) goals)
 
 -- 20, then 22, then 7
 unfoldable pub updateKept : List ℕ → List ℕ → Bool → List Float → ℕ
-updateKept ss cs started x = ifArms ss cs (cond started (blockRefusal (joints (codesUsed ss cs)) x) 22)
+updateKept ss cs started x = ifArms ss cs (cond started (blockRefusal (codesUsed ss cs) x) 22)
 
 -- the poses of the stored sheet's walk
 unfoldable pub keptPose : List ℕ → List ℕ → List Float → List Float → ℕ → Pose
@@ -140,9 +140,6 @@ pub pose-kept : (ss cs : List ℕ) (x : List Float) → poseKept ss cs x 28 ≡ 
 unfolding poseKept blockKept ifArms
 pose-kept ss cs x = pick (haveSheet ss cs) refl
   where
-    short : getD ss 0 0 ≤ 4 → 7 * length (linksUsed ss) ≤ 28
-    short h = omega (arith, links-length ss)
-
-    pick : (t : Bool) → haveSheet ss cs ≡ t → cond t (poseRefusal (linksUsed ss) (codesUsed ss cs) x 28) 20 ≡ cond t (blockRefusal (joints (codesUsed ss cs)) x) 20
-    pick true e = pose-room (linksUsed ss) (codesUsed ss cs) x 28 (short (stored ss cs e .few))
+    pick : (t : Bool) → haveSheet ss cs ≡ t → cond t (poseRefusal (linksUsed ss) (codesUsed ss cs) x 28) 20 ≡ cond t (blockRefusal (codesUsed ss cs) x) 20
+    pick true e = pose-room (linksUsed ss) (codesUsed ss cs) x (omega (arith, links-length ss, stored ss cs e .few))
     pick false e = refl

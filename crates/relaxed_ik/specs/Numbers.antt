@@ -7,10 +7,8 @@ use Prim.Native.Nat.{ℕ}
 use native.Mathlib.Omega.{arith}
 use lib.Ieee.{Float}
 use lib.ListN.{getD}
-use Rattle.sheet.specs.Chain.{joints}
 use Rattle.refusals.specs.Lowest.{firstOf, first-zero, first-some}
-use Rattle.refusals.specs.Refusal.{goalsRefusal}
-use Rattle.refusals.specs.Rows.{Row, row, firstRow, upFrom, Numbered, numbered, blockRow, goalsRow, goals-row, first-last}
+use Rattle.refusals.specs.Rows.{Row, row, firstRow, upFrom, Numbered, numbered, blockRow, goalsRow, goals-row, alone}
 use Rattle.calls.specs.Rows.{framesRows, poseRows, block-alone, frames-rows, pose-rows}
 use Rattle.objective_calls.specs.Rows.{slopesRows, slopes-rows}
 use Rattle.one_block_calls.specs.Rows.{oneBlockRows, one-block-rows}
@@ -67,31 +65,31 @@ module _ (ss cs : List ℕ) where
   pose-numbered x n = numbered _ _ _ refl refl (arms-first ss cs _ ∙ ap (firstOf (firstRow (armsRow ss cs ∷ []))) (pose-rows (linksUsed ss) (codesUsed ss cs) x n))
 
   -- reset and manipulability
-  pub block-numbered : (x : List Float) → Numbered (armsRow ss cs ∷ []) (blockRow (joints (codesUsed ss cs)) x ∷ []) (blockKept ss cs x)
+  pub block-numbered : (x : List Float) → Numbered (armsRow ss cs ∷ []) (blockRow (codesUsed ss cs) x ∷ []) (blockKept ss cs x)
   unfolding blockKept upFrom
-  block-numbered x = numbered _ _ _ refl refl (arms-first ss cs _ ∙ ap (firstOf (firstRow (armsRow ss cs ∷ []))) (block-alone (joints (codesUsed ss cs)) x))
+  block-numbered x = numbered _ _ _ refl refl (arms-first ss cs _ ∙ ap (firstOf (firstRow (armsRow ss cs ∷ []))) (block-alone (codesUsed ss cs) x))
 
   -- setting goals
   pub goals-numbered : (goals : List Float) → Numbered (armsRow ss cs ∷ []) (goalsRow (getD ss 0 0) goals ∷ []) (goalsKept ss cs goals)
   unfolding goalsKept upFrom
   goals-numbered goals =
       numbered _ _ _ refl refl
-      (arms-first ss cs _ ∙ ap (firstOf (firstRow (armsRow ss cs ∷ []))) (first-last (goalsRefusal (getD ss 0 0) goals) ∙ goals-row (getD ss 0 0) goals []))
+      (arms-first ss cs _ ∙ ap (firstOf (firstRow (armsRow ss cs ∷ []))) (alone _ _ (goals-row (getD ss 0 0) goals [])))
 
   pub update-numbered : (started : Bool) (x : List Float)
-      → Numbered (armsRow ss cs ∷ startRow started ∷ []) (blockRow (joints (codesUsed ss cs)) x ∷ []) (updateKept ss cs started x)
+      → Numbered (armsRow ss cs ∷ startRow started ∷ []) (blockRow (codesUsed ss cs) x ∷ []) (updateKept ss cs started x)
   unfolding updateKept upFrom
   update-numbered started x =
       numbered _ _ _ refl refl
-      (update-first ss cs started _ ∙ ap (firstOf (firstRow (armsRow ss cs ∷ startRow started ∷ []))) (block-alone (joints (codesUsed ss cs)) x))
+      (update-first ss cs started _ ∙ ap (firstOf (firstRow (armsRow ss cs ∷ startRow started ∷ []))) (block-alone (codesUsed ss cs) x))
 
   -- the objective
   pub objective-numbered : (goals started : Bool) (x : List Float)
-      → Numbered (armsRow ss cs ∷ goalsSetRow goals ∷ startRow started ∷ []) (blockRow (joints (codesUsed ss cs)) x ∷ []) (objectiveKept ss cs goals started x)
+      → Numbered (armsRow ss cs ∷ goalsSetRow goals ∷ startRow started ∷ []) (blockRow (codesUsed ss cs) x ∷ []) (objectiveKept ss cs goals started x)
   unfolding objectiveKept upFrom
   objective-numbered goals started x =
       numbered _ _ _ refl refl
-      (aim-first ss cs goals started _ ∙ ap (firstOf (firstRow (armsRow ss cs ∷ goalsSetRow goals ∷ startRow started ∷ []))) (block-alone (joints (codesUsed ss cs)) x))
+      (aim-first ss cs goals started _ ∙ ap (firstOf (firstRow (armsRow ss cs ∷ goalsSetRow goals ∷ startRow started ∷ []))) (block-alone (codesUsed ss cs) x))
 
   -- both gradients
   pub slopes-numbered : (goals started : Bool) (x : List Float) (scratch slopes : ℕ)

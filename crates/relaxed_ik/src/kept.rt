@@ -4,7 +4,6 @@ use calls::answer::Answer;
 use calls::frames;
 use calls::measure;
 use refusals::lent;
-use sheet::chain;
 ghost use mathlib.Core.Path.{_≡_};
 ghost use lib.ListN.{length};
 ghost use Rattle.lists.specs.Splice.{splice};
@@ -83,7 +82,7 @@ pub(crate) fn block_on(sizes: &[u16], codes: &[u16], joints: &[f64]) -> u16
         return 20;
     }
     let links = n.links;
-    lent::block_refusal(chain::joint_number(&codes[..links], links), joints)
+    lent::block_refusal(&codes[..links], joints)
 }
 
 pub(crate) fn goals_on(sizes: &[u16], codes: &[u16], goals: &[f64]) -> u16

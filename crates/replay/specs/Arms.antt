@@ -1,19 +1,20 @@
 -- When a record of a byte call on an arm sheet agrees with what the call answers. The record has the call's lists in the order of its parameters, the outputs last.
 use mathlib.Core.Bool.{Bool}
 use mathlib.Core.List.{List, [], _∷_}
-use Prim.Native.Nat.{ℕ}
+use Prim.Native.Nat.{ℕ, _+_}
 use lib.ListN.{length}
 use lib.Ieee.{Float}
 use Rattle.lent_bytes.specs.Lent.{numbersIn, floatsIn, roomIn, bytesOf}
 use Rattle.lent_bytes.specs.SheetLists.{SheetLists, sheetWith}
 use Rattle.arm_bytes.specs.ArmCalls.{loadNumber, setGoalsNumber, framesNumber, poseNumber, updateNumber, resetNumber, manipulabilityNumber}
 use Rattle.arm_bytes.specs.ArmCalls.{framePositions, frameRotations, endPoses, updatedBlocks, resetBlocks, manipulabilityValue}
-use Rattle.replay.specs.Stored.{listOf}
-use Rattle.replay.specs.Agree.{written, answerAgrees}
+use Rattle.stored_answers.specs.Stored.{listOf}
+use Rattle.replay.specs.Table.{sizesList, codesList, floatsList, limitsList, goalsList, updateHistory, updateJoints, updateOutput, armJoints, armOutputs}
+use Rattle.stored_answers.specs.Agree.{written, answerAgrees}
 
 -- what the record at a place lends the call
 abbrev pub sheetAt : List ℕ → ℕ → SheetLists
-sheetAt s at = sheetWith (numbersIn 5 (listOf s at 0)) (numbersIn 64 (listOf s at 1)) (floatsIn 448 (listOf s at 2)) (floatsIn 32 (listOf s at 3))
+sheetAt s at = sheetWith (numbersIn 5 (listOf s at sizesList)) (numbersIn 64 (listOf s at codesList)) (floatsIn 448 (listOf s at floatsList)) (floatsIn 32 (listOf s at limitsList))
 
 abbrev pub blockAt : List ℕ → ℕ → ℕ → List Float
 blockAt s at k = floatsIn 16 (listOf s at k)
@@ -31,53 +32,53 @@ unfoldable pub loadAgrees : List ℕ → ℕ → Bool
 loadAgrees s at = answerAgrees s at (loadNumber (sheetAt s at)) 0 []
 
 unfoldable pub setGoalsAgrees : List ℕ → ℕ → Bool
-setGoalsAgrees s at = answerAgrees s at (setGoalsNumber (sheetAt s at) (goalsAt s at 4)) 0 []
+setGoalsAgrees s at = answerAgrees s at (setGoalsNumber (sheetAt s at) (goalsAt s at goalsList)) 0 []
 
 -- Of each call its number, and the outputs after it. Joints; positions, rotations:
 abbrev framesAt : List ℕ → ℕ → ℕ
-framesAt s at = framesNumber (sheetAt s at) (blockAt s at 4) (roomAt s at 5) (roomAt s at 6)
+framesAt s at = framesNumber (sheetAt s at) (blockAt s at armJoints) (roomAt s at armOutputs) (roomAt s at (armOutputs + 1))
 
 unfoldable pub framesAgree : List ℕ → ℕ → Bool
 framesAgree s at =
-    answerAgrees s at (framesAt s at) 5
-    (written (framesAt s at) (listOf s at 5) (bytesOf (framePositions (sheetAt s at) (blockAt s at 4)))
-    ∷ written (framesAt s at) (listOf s at 6) (bytesOf (frameRotations (sheetAt s at) (blockAt s at 4)))
+    answerAgrees s at (framesAt s at) armOutputs
+    (written (framesAt s at) (listOf s at armOutputs) (bytesOf (framePositions (sheetAt s at) (blockAt s at armJoints)))
+    ∷ written (framesAt s at) (listOf s at (armOutputs + 1)) (bytesOf (frameRotations (sheetAt s at) (blockAt s at armJoints)))
     ∷ [])
 
 -- joints; end poses
 abbrev poseAt : List ℕ → ℕ → ℕ
-poseAt s at = poseNumber (sheetAt s at) (blockAt s at 4) (roomAt s at 5)
+poseAt s at = poseNumber (sheetAt s at) (blockAt s at armJoints) (roomAt s at armOutputs)
 
 unfoldable pub poseAgrees : List ℕ → ℕ → Bool
 poseAgrees s at =
-    answerAgrees s at (poseAt s at) 5
-    (written (poseAt s at) (listOf s at 5) (bytesOf (endPoses (sheetAt s at) (blockAt s at 4))) ∷ [])
+    answerAgrees s at (poseAt s at) armOutputs
+    (written (poseAt s at) (listOf s at armOutputs) (bytesOf (endPoses (sheetAt s at) (blockAt s at armJoints))) ∷ [])
 
 -- joints; one float
 abbrev manipulabilityAt : List ℕ → ℕ → ℕ
-manipulabilityAt s at = manipulabilityNumber (sheetAt s at) (blockAt s at 4) (roomAt s at 5)
+manipulabilityAt s at = manipulabilityNumber (sheetAt s at) (blockAt s at armJoints) (roomAt s at armOutputs)
 
 unfoldable pub manipulabilityAgrees : List ℕ → ℕ → Bool
 manipulabilityAgrees s at =
-    answerAgrees s at (manipulabilityAt s at) 5
-    (written (manipulabilityAt s at) (listOf s at 5) (bytesOf (manipulabilityValue (sheetAt s at) (blockAt s at 4))) ∷ [])
+    answerAgrees s at (manipulabilityAt s at) armOutputs
+    (written (manipulabilityAt s at) (listOf s at armOutputs) (bytesOf (manipulabilityValue (sheetAt s at) (blockAt s at armJoints))) ∷ [])
 
 -- joints; history, end poses
 abbrev resetAt : List ℕ → ℕ → ℕ
-resetAt s at = resetNumber (sheetAt s at) (blockAt s at 4) (roomAt s at 5) (roomAt s at 6)
+resetAt s at = resetNumber (sheetAt s at) (blockAt s at armJoints) (roomAt s at armOutputs) (roomAt s at (armOutputs + 1))
 
 unfoldable pub resetAgrees : List ℕ → ℕ → Bool
 resetAgrees s at =
-    answerAgrees s at (resetAt s at) 5
-    (written (resetAt s at) (listOf s at 5) (bytesOf (resetBlocks (blockAt s at 4)))
-    ∷ written (resetAt s at) (listOf s at 6) (bytesOf (endPoses (sheetAt s at) (blockAt s at 4)))
+    answerAgrees s at (resetAt s at) armOutputs
+    (written (resetAt s at) (listOf s at armOutputs) (bytesOf (resetBlocks (blockAt s at armJoints)))
+    ∷ written (resetAt s at) (listOf s at (armOutputs + 1)) (bytesOf (endPoses (sheetAt s at) (blockAt s at armJoints)))
     ∷ [])
 
 -- history, joints; the new history
 abbrev updateAt : List ℕ → ℕ → ℕ
-updateAt s at = updateNumber (sheetAt s at) (historyAt s at 4) (blockAt s at 5) (roomAt s at 6)
+updateAt s at = updateNumber (sheetAt s at) (historyAt s at updateHistory) (blockAt s at updateJoints) (roomAt s at updateOutput)
 
 unfoldable pub updateAgrees : List ℕ → ℕ → Bool
 updateAgrees s at =
-    answerAgrees s at (updateAt s at) 6
-    (written (updateAt s at) (listOf s at 6) (bytesOf (updatedBlocks (historyAt s at 4) (blockAt s at 5))) ∷ [])
+    answerAgrees s at (updateAt s at) updateOutput
+    (written (updateAt s at) (listOf s at updateOutput) (bytesOf (updatedBlocks (historyAt s at updateHistory) (blockAt s at updateJoints))) ∷ [])

@@ -3,15 +3,12 @@ use mathlib.Core.Bool.{Bool, cond}
 use mathlib.Core.List.{List}
 use Prim.Native.Nat.{ℕ}
 use lib.Dec.{eqb, ltb}
-use Rattle.replay.specs.Stored.{numberAt}
+use Rattle.stored_answers.specs.Stored.{numberAt}
 use Rattle.replay.specs.Arms.{loadAgrees, setGoalsAgrees, framesAgree, poseAgrees, manipulabilityAgrees, resetAgrees, updateAgrees}
 use Rattle.replay.specs.Objectives.{objectiveAgrees, gradientAgrees, finiteDiffAgrees, oneBlockAgrees}
 use Rattle.replay.specs.Leaves.{leafAgrees}
 
--- 2 to 5, the byte calls with one output; behind how many lists it is stored
-unfoldable pub readOf : ℕ → ℕ
-readOf c = cond (eqb c 2) 5 (cond (eqb c 3) 5 (cond (eqb c 4) 6 7))
-
+-- 2 to 5, the byte calls with one output
 unfoldable pub oneAgrees : ℕ → List ℕ → ℕ → Bool
 oneAgrees c s at =
     cond (eqb c 2) (poseAgrees s at)

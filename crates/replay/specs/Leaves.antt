@@ -1,4 +1,4 @@
--- What a leaf answers, by its call number, on the floats that a record asks it: list 0 of the record has the floats asked, list 1 those answered.
+-- What a leaf answers, by its call number, on the floats that a record asks it.
 use mathlib.Core.Path.{_≡_}
 use mathlib.Core.Bool.{Bool, cond}
 use mathlib.Core.List.{List, [], _∷_}
@@ -22,8 +22,9 @@ use Rattle.geometry.specs.Matrix.{determinantOf, gramOf}
 use Rattle.groove.specs.Loss.{grooveLoss, swampGrooveLoss, swampLoss, matchEEPosiDoF, matchEERotaDoF, eachJointLimits}
 use Rattle.lent_bytes.specs.Bytes.{floatAt}
 use Rattle.lent_bytes.specs.Lent.{floatsIn, bytesOf}
-use Rattle.replay.specs.Stored.{numberAt, listOf}
-use Rattle.replay.specs.Agree.{answerAgrees}
+use Rattle.stored_answers.specs.Stored.{numberAt, listOf}
+use Rattle.stored_answers.specs.Agree.{answerAgrees}
+use Rattle.replay.specs.Table.{askedList, answeredList}
 
 -- three and four floats of a byte list, from float i on
 abbrev pub vecAt : List ℕ → ℕ → Vec3
@@ -108,7 +109,7 @@ leafOf c b =
     (gramOf (floatsIn 96 b))))))
 
 unfoldable pub leafAgrees : List ℕ → ℕ → Bool
-leafAgrees s at = answerAgrees s at 0 1 (bytesOf (leafOf (numberAt s at) (listOf s at 0)) ∷ [])
+leafAgrees s at = answerAgrees s at 0 answeredList (bytesOf (leafOf (numberAt s at) (listOf s at askedList)) ∷ [])
 
 -- ---- laws: which of them a number is
 module _ (c : ℕ) (b : List ℕ) where

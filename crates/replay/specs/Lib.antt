@@ -1,9 +1,6 @@
-pub mod Stored
-pub mod Same
-pub mod Agree
+pub mod Table
 pub mod Arms
 pub mod Objectives
 pub mod Leaves
 pub mod Cases
 pub mod Tally
-pub mod Damage

@@ -1,33 +1,11 @@
 // Whether an answer agrees with the stored one: the number, and every output byte for byte.
-use crate::stored;
+use stored_answers::agree::none;
+use stored_answers::agree::same;
+use stored_answers::stored;
 ghost use mathlib.Core.Path.{_≡_};
 ghost use mathlib.Core.List.{[], _∷_};
 ghost use Prim.Native.Nat.{_≤_, _^_};
-ghost use Rattle.replay.specs.Agree.{sameBytes, answerAgrees};
-
-pub fn same(a: &[u8], b: &[u8]) -> bool
-    ensures { λ r. ⌜ r ≡ sameBytes (now (a .entry)) (now (b .entry)) ⌝ }
-{
-    if a.len() != b.len() {
-        return false;
-    }
-    let mut i: usize = 0;
-    while i < a.len() {
-        if a[i] != b[i] {
-            return false;
-        }
-        i += 1;
-    }
-    true
-}
-
-// A number alone.
-pub fn none(s: &[u8], at: usize, number: u32) -> bool
-    requires { ⌜ at ≤ 2 ^ 40 ⌝ }
-    ensures { λ r. ⌜ r ≡ answerAgrees (now (s .entry)) at number 0 [] ⌝ }
-{
-    number as usize == stored::number_at(s, at + 2)
-}
+ghost use Rattle.stored_answers.specs.Agree.{answerAgrees};
 
 // A number, and an output that is stored as list k.
 pub fn one(s: &[u8], at: usize, number: u32, k: usize, a: &[u8]) -> bool

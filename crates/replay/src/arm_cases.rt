@@ -1,11 +1,14 @@
 // The byte calls on an arm sheet: each is asked what a record stores, and its answer is held against the stored one.
 use crate::agree;
-use crate::stored::list;
+use crate::table;
 use arm_bytes::arms;
+use stored_answers::agree::none;
+use stored_answers::stored::list;
 ghost use mathlib.Core.Path.{_≡_};
-ghost use Prim.Native.Nat.{_≤_, _^_};
-ghost use Rattle.replay.specs.Stored.{listOf};
-ghost use Rattle.replay.specs.Agree.{filled};
+ghost use Prim.Native.Nat.{_+_, _≤_, _^_};
+ghost use Rattle.stored_answers.specs.Stored.{listOf};
+ghost use Rattle.stored_answers.specs.Agree.{filled};
+ghost use Rattle.replay.specs.Table.{armOutputs, updateOutput};
 ghost use Rattle.replay.specs.Arms.{loadAgrees, setGoalsAgrees, framesAgree, poseAgrees, manipulabilityAgrees, resetAgrees, updateAgrees};
 
 pub fn load(s: &[u8], at: usize) -> bool
@@ -13,12 +16,12 @@ pub fn load(s: &[u8], at: usize) -> bool
     ensures { λ r. ⌜ r ≡ loadAgrees (now (s .entry)) at ⌝ }
 {
     let number = arms::load(
-        list(s, at, 0),
-        list(s, at, 1),
-        list(s, at, 2),
-        list(s, at, 3),
+        list(s, at, table::SIZES),
+        list(s, at, table::CODES),
+        list(s, at, table::FLOATS),
+        list(s, at, table::LIMITS),
     );
-    agree::none(s, at, number)
+    none(s, at, number)
 }
 
 pub fn set_goals(s: &[u8], at: usize) -> bool
@@ -26,94 +29,94 @@ pub fn set_goals(s: &[u8], at: usize) -> bool
     ensures { λ r. ⌜ r ≡ setGoalsAgrees (now (s .entry)) at ⌝ }
 {
     let number = arms::set_goals(
-        list(s, at, 0),
-        list(s, at, 1),
-        list(s, at, 2),
-        list(s, at, 3),
-        list(s, at, 4),
+        list(s, at, table::SIZES),
+        list(s, at, table::CODES),
+        list(s, at, table::FLOATS),
+        list(s, at, table::LIMITS),
+        list(s, at, table::GOALS),
     );
-    agree::none(s, at, number)
+    none(s, at, number)
 }
 
 pub fn frames(s: &[u8], at: usize, positions: &mut [u8], rotations: &mut [u8]) -> bool
     requires { ⌜ at ≤ 2 ^ 40 ⌝ }
-    requires { ⌜ (now positions ≡ filled (listOf (now s) at 5)) × (now rotations ≡ filled (listOf (now s) at 6)) ⌝ }
+    requires { ⌜ (now positions ≡ filled (listOf (now s) at armOutputs)) × (now rotations ≡ filled (listOf (now s) at (armOutputs + 1))) ⌝ }
     ensures { λ r. ⌜ r ≡ framesAgree (now (s .entry)) at ⌝ }
 {
     let number = arms::frames(
-        list(s, at, 0),
-        list(s, at, 1),
-        list(s, at, 2),
-        list(s, at, 3),
-        list(s, at, 4),
+        list(s, at, table::SIZES),
+        list(s, at, table::CODES),
+        list(s, at, table::FLOATS),
+        list(s, at, table::LIMITS),
+        list(s, at, table::ARM_JOINTS),
         positions,
         rotations,
     );
-    agree::two(s, at, number, 5, positions, rotations)
+    agree::two(s, at, number, table::ARM_OUTPUTS, positions, rotations)
 }
 
 pub fn pose(s: &[u8], at: usize, ends: &mut [u8]) -> bool
     requires { ⌜ at ≤ 2 ^ 40 ⌝ }
-    requires { ⌜ now ends ≡ filled (listOf (now s) at 5) ⌝ }
+    requires { ⌜ now ends ≡ filled (listOf (now s) at armOutputs) ⌝ }
     ensures { λ r. ⌜ r ≡ poseAgrees (now (s .entry)) at ⌝ }
 {
     let number = arms::pose(
-        list(s, at, 0),
-        list(s, at, 1),
-        list(s, at, 2),
-        list(s, at, 3),
-        list(s, at, 4),
+        list(s, at, table::SIZES),
+        list(s, at, table::CODES),
+        list(s, at, table::FLOATS),
+        list(s, at, table::LIMITS),
+        list(s, at, table::ARM_JOINTS),
         ends,
     );
-    agree::one(s, at, number, 5, ends)
+    agree::one(s, at, number, table::ARM_OUTPUTS, ends)
 }
 
 pub fn manipulability(s: &[u8], at: usize, value: &mut [u8]) -> bool
     requires { ⌜ at ≤ 2 ^ 40 ⌝ }
-    requires { ⌜ now value ≡ filled (listOf (now s) at 5) ⌝ }
+    requires { ⌜ now value ≡ filled (listOf (now s) at armOutputs) ⌝ }
     ensures { λ r. ⌜ r ≡ manipulabilityAgrees (now (s .entry)) at ⌝ }
 {
     let number = arms::manipulability(
-        list(s, at, 0),
-        list(s, at, 1),
-        list(s, at, 2),
-        list(s, at, 3),
-        list(s, at, 4),
+        list(s, at, table::SIZES),
+        list(s, at, table::CODES),
+        list(s, at, table::FLOATS),
+        list(s, at, table::LIMITS),
+        list(s, at, table::ARM_JOINTS),
         value,
     );
-    agree::one(s, at, number, 5, value)
+    agree::one(s, at, number, table::ARM_OUTPUTS, value)
 }
 
 pub fn reset(s: &[u8], at: usize, history: &mut [u8], ends: &mut [u8]) -> bool
     requires { ⌜ at ≤ 2 ^ 40 ⌝ }
-    requires { ⌜ (now history ≡ filled (listOf (now s) at 5)) × (now ends ≡ filled (listOf (now s) at 6)) ⌝ }
+    requires { ⌜ (now history ≡ filled (listOf (now s) at armOutputs)) × (now ends ≡ filled (listOf (now s) at (armOutputs + 1))) ⌝ }
     ensures { λ r. ⌜ r ≡ resetAgrees (now (s .entry)) at ⌝ }
 {
     let number = arms::reset(
-        list(s, at, 0),
-        list(s, at, 1),
-        list(s, at, 2),
-        list(s, at, 3),
-        list(s, at, 4),
+        list(s, at, table::SIZES),
+        list(s, at, table::CODES),
+        list(s, at, table::FLOATS),
+        list(s, at, table::LIMITS),
+        list(s, at, table::ARM_JOINTS),
         history,
         ends,
     );
-    agree::two(s, at, number, 5, history, ends)
+    agree::two(s, at, number, table::ARM_OUTPUTS, history, ends)
 }
 
 pub fn update(s: &[u8], at: usize, new_history: &mut [u8]) -> bool
     requires { ⌜ at ≤ 2 ^ 40 ⌝ }
-    requires { ⌜ now «new_history» ≡ filled (listOf (now s) at 6) ⌝ }
+    requires { ⌜ now «new_history» ≡ filled (listOf (now s) at updateOutput) ⌝ }
     ensures { λ r. ⌜ r ≡ updateAgrees (now (s .entry)) at ⌝ }
 {
     let number = arms::update(
-        list(s, at, 0),
-        list(s, at, 1),
-        list(s, at, 2),
-        list(s, at, 3),
-        list(s, at, 4),
-        list(s, at, 5),
+        list(s, at, table::SIZES),
+        list(s, at, table::CODES),
+        list(s, at, table::FLOATS),
+        list(s, at, table::LIMITS),
+        list(s, at, table::UPDATE_HISTORY),
+        list(s, at, table::UPDATE_JOINTS),
         new_history,
     );
-    agree::one(s, at, number, 6, new_history)
+    agree::one(s, at, number, table::UPDATE_OUTPUT, new_history)
 }

@@ -2,26 +2,15 @@
 use crate::arm_cases;
 use crate::leaf_cases;
 use crate::objective_cases;
-use crate::stored;
+use crate::table;
+use stored_answers::stored;
 ghost use mathlib.Core.Path.{_≡_};
 ghost use Prim.Native.Nat.{_≤_, _<_, _^_};
 ghost use lib.ListN.{length};
-ghost use Rattle.replay.specs.Stored.{listOf};
-ghost use Rattle.replay.specs.Agree.{fill};
+ghost use Rattle.stored_answers.specs.Stored.{listOf};
+ghost use Rattle.stored_answers.specs.Agree.{fill};
 ghost use Rattle.replay.specs.Objectives.{oneBlockAgrees};
-ghost use Rattle.replay.specs.Cases.{readOf, oneAgrees, twoAgree, threeAgree, recordAgrees};
-
-// Behind how many lists the output of a call with one output is stored.
-fn read(call: usize) -> usize
-    ensures { λ r. ⌜ (r ≡ readOf call) × (r ≤ 7) ⌝ }
-{
-    match call {
-        2 => return 5,
-        3 => return 5,
-        4 => return 6,
-        _ => return 7,
-    }
-}
+ghost use Rattle.replay.specs.Cases.{oneAgrees, twoAgree, threeAgree, recordAgrees};
 
 // How long list k of the record is.
 fn room(s: &[u8], at: usize, k: usize) -> usize
@@ -42,9 +31,10 @@ fn buffer() -> [u8; 65536]
 // Each output is as long as the stored one, and filled with one byte before the call.
 fn one_output(call: usize, s: &[u8], at: usize) -> bool
     requires { ⌜ at ≤ 2 ^ 40 ⌝ }
+    requires { ⌜ (2 ≤ call) × (call < 6) ⌝ }
     ensures { λ r. ⌜ r ≡ oneAgrees call (now (s .entry)) at ⌝ }
 {
-    let n = room(s, at, read(call));
+    let n = room(s, at, table::outputs_from(call));
     let mut a = buffer();
     match call {
         2 => return arm_cases::pose(s, at, &mut a[..n]),
@@ -58,8 +48,8 @@ fn two_outputs(call: usize, s: &[u8], at: usize) -> bool
     requires { ⌜ at ≤ 2 ^ 40 ⌝ }
     ensures { λ r. ⌜ r ≡ twoAgree call (now (s .entry)) at ⌝ }
 {
-    let m = room(s, at, 5);
-    let n = room(s, at, 6);
+    let m = room(s, at, table::ARM_OUTPUTS);
+    let n = room(s, at, table::ARM_SECOND);
     let mut a = buffer();
     let mut b = buffer();
     match call {
@@ -72,9 +62,9 @@ fn three_outputs(call: usize, s: &[u8], at: usize) -> bool
     requires { ⌜ at ≤ 2 ^ 40 ⌝ }
     ensures { λ r. ⌜ r ≡ threeAgree call (now (s .entry)) at ⌝ }
 {
-    let l = room(s, at, 7);
-    let m = room(s, at, 8);
-    let n = room(s, at, 9);
+    let l = room(s, at, table::OBJECTIVE_OUTPUTS);
+    let m = room(s, at, table::OBJECTIVE_SECOND);
+    let n = room(s, at, table::OBJECTIVE_THIRD);
     let mut a = buffer();
     let mut b = buffer();
     let mut c = buffer();
@@ -88,11 +78,11 @@ fn five_outputs(s: &[u8], at: usize) -> bool
     requires { ⌜ at ≤ 2 ^ 40 ⌝ }
     ensures { λ r. ⌜ r ≡ oneBlockAgrees (now (s .entry)) at ⌝ }
 {
-    let k = room(s, at, 7);
-    let l = room(s, at, 8);
-    let m = room(s, at, 9);
-    let n = room(s, at, 10);
-    let o = room(s, at, 11);
+    let k = room(s, at, table::OBJECTIVE_OUTPUTS);
+    let l = room(s, at, table::OBJECTIVE_SECOND);
+    let m = room(s, at, table::OBJECTIVE_THIRD);
+    let n = room(s, at, table::OBJECTIVE_FOURTH);
+    let o = room(s, at, table::OBJECTIVE_FIFTH);
     let mut a = buffer();
     let mut b = buffer();
     let mut c = buffer();

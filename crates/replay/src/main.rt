@@ -8,7 +8,7 @@ mod leaves;
 mod names;
 mod objective_cases;
 mod report;
-mod stored;
+mod table;
 mod tally;
 
 use libc::STDOUT_FILENO;

@@ -1,29 +1,31 @@
 // The byte calls on the objective, as those on an arm sheet.
 use crate::agree;
-use crate::stored::list;
+use crate::table;
 use objective_bytes::objectives;
+use stored_answers::stored::list;
 ghost use mathlib.Core.Path.{_≡_};
-ghost use Prim.Native.Nat.{_≤_, _^_};
-ghost use Rattle.replay.specs.Stored.{listOf};
-ghost use Rattle.replay.specs.Agree.{filled};
+ghost use Prim.Native.Nat.{_+_, _≤_, _^_};
+ghost use Rattle.stored_answers.specs.Stored.{listOf};
+ghost use Rattle.stored_answers.specs.Agree.{filled};
+ghost use Rattle.replay.specs.Table.{objectiveOutputs};
 ghost use Rattle.replay.specs.Objectives.{objectiveAgrees, gradientAgrees, finiteDiffAgrees, oneBlockAgrees};
 
 pub fn objective(s: &[u8], at: usize, value: &mut [u8]) -> bool
     requires { ⌜ at ≤ 2 ^ 40 ⌝ }
-    requires { ⌜ now value ≡ filled (listOf (now s) at 7) ⌝ }
+    requires { ⌜ now value ≡ filled (listOf (now s) at objectiveOutputs) ⌝ }
     ensures { λ r. ⌜ r ≡ objectiveAgrees (now (s .entry)) at ⌝ }
 {
     let number = objectives::objective(
-        list(s, at, 0),
-        list(s, at, 1),
-        list(s, at, 2),
-        list(s, at, 3),
-        list(s, at, 4),
-        list(s, at, 5),
-        list(s, at, 6),
+        list(s, at, table::SIZES),
+        list(s, at, table::CODES),
+        list(s, at, table::FLOATS),
+        list(s, at, table::LIMITS),
+        list(s, at, table::GOALS),
+        list(s, at, table::HISTORY),
+        list(s, at, table::JOINTS),
         value,
     );
-    agree::one(s, at, number, 7, value)
+    agree::one(s, at, number, table::OBJECTIVE_OUTPUTS, value)
 }
 
 pub fn gradient(
@@ -34,24 +36,32 @@ pub fn gradient(
     slopes: &mut [u8],
 ) -> bool
     requires { ⌜ at ≤ 2 ^ 40 ⌝ }
-    requires { ⌜ (now scratch ≡ filled (listOf (now s) at 7))
-        × (now value ≡ filled (listOf (now s) at 8))
-        × (now slopes ≡ filled (listOf (now s) at 9)) ⌝ }
+    requires { ⌜ (now scratch ≡ filled (listOf (now s) at objectiveOutputs))
+        × (now value ≡ filled (listOf (now s) at (objectiveOutputs + 1)))
+        × (now slopes ≡ filled (listOf (now s) at (objectiveOutputs + 2))) ⌝ }
     ensures { λ r. ⌜ r ≡ gradientAgrees (now (s .entry)) at ⌝ }
 {
     let number = objectives::gradient(
-        list(s, at, 0),
-        list(s, at, 1),
-        list(s, at, 2),
-        list(s, at, 3),
-        list(s, at, 4),
-        list(s, at, 5),
-        list(s, at, 6),
+        list(s, at, table::SIZES),
+        list(s, at, table::CODES),
+        list(s, at, table::FLOATS),
+        list(s, at, table::LIMITS),
+        list(s, at, table::GOALS),
+        list(s, at, table::HISTORY),
+        list(s, at, table::JOINTS),
         scratch,
         value,
         slopes,
     );
-    agree::three(s, at, number, 7, scratch, value, slopes)
+    agree::three(
+        s,
+        at,
+        number,
+        table::OBJECTIVE_OUTPUTS,
+        scratch,
+        value,
+        slopes,
+    )
 }
 
 pub fn gradient_finite_diff(
@@ -62,24 +72,32 @@ pub fn gradient_finite_diff(
     slopes: &mut [u8],
 ) -> bool
     requires { ⌜ at ≤ 2 ^ 40 ⌝ }
-    requires { ⌜ (now scratch ≡ filled (listOf (now s) at 7))
-        × (now value ≡ filled (listOf (now s) at 8))
-        × (now slopes ≡ filled (listOf (now s) at 9)) ⌝ }
+    requires { ⌜ (now scratch ≡ filled (listOf (now s) at objectiveOutputs))
+        × (now value ≡ filled (listOf (now s) at (objectiveOutputs + 1)))
+        × (now slopes ≡ filled (listOf (now s) at (objectiveOutputs + 2))) ⌝ }
     ensures { λ r. ⌜ r ≡ finiteDiffAgrees (now (s .entry)) at ⌝ }
 {
     let number = objectives::gradient_finite_diff(
-        list(s, at, 0),
-        list(s, at, 1),
-        list(s, at, 2),
-        list(s, at, 3),
-        list(s, at, 4),
-        list(s, at, 5),
-        list(s, at, 6),
+        list(s, at, table::SIZES),
+        list(s, at, table::CODES),
+        list(s, at, table::FLOATS),
+        list(s, at, table::LIMITS),
+        list(s, at, table::GOALS),
+        list(s, at, table::HISTORY),
+        list(s, at, table::JOINTS),
         scratch,
         value,
         slopes,
     );
-    agree::three(s, at, number, 7, scratch, value, slopes)
+    agree::three(
+        s,
+        at,
+        number,
+        table::OBJECTIVE_OUTPUTS,
+        scratch,
+        value,
+        slopes,
+    )
 }
 
 pub fn gradient_one_block(
@@ -92,21 +110,21 @@ pub fn gradient_one_block(
     record_poses: &mut [u8],
 ) -> bool
     requires { ⌜ at ≤ 2 ^ 40 ⌝ }
-    requires { ⌜ (now value ≡ filled (listOf (now s) at 7))
-        × (now slopes ≡ filled (listOf (now s) at 8))
-        × (now «record_joints» ≡ filled (listOf (now s) at 9))
-        × (now «record_links» ≡ filled (listOf (now s) at 10))
-        × (now «record_poses» ≡ filled (listOf (now s) at 11)) ⌝ }
+    requires { ⌜ (now value ≡ filled (listOf (now s) at objectiveOutputs))
+        × (now slopes ≡ filled (listOf (now s) at (objectiveOutputs + 1)))
+        × (now «record_joints» ≡ filled (listOf (now s) at (objectiveOutputs + 2)))
+        × (now «record_links» ≡ filled (listOf (now s) at (objectiveOutputs + 3)))
+        × (now «record_poses» ≡ filled (listOf (now s) at (objectiveOutputs + 4))) ⌝ }
     ensures { λ r. ⌜ r ≡ oneBlockAgrees (now (s .entry)) at ⌝ }
 {
     let number = one_block_bytes::slopes::gradient_one_block(
-        list(s, at, 0),
-        list(s, at, 1),
-        list(s, at, 2),
-        list(s, at, 3),
-        list(s, at, 4),
-        list(s, at, 5),
-        list(s, at, 6),
+        list(s, at, table::SIZES),
+        list(s, at, table::CODES),
+        list(s, at, table::FLOATS),
+        list(s, at, table::LIMITS),
+        list(s, at, table::GOALS),
+        list(s, at, table::HISTORY),
+        list(s, at, table::JOINTS),
         value,
         slopes,
         record_joints,
@@ -117,7 +135,7 @@ pub fn gradient_one_block(
         s,
         at,
         number,
-        7,
+        table::OBJECTIVE_OUTPUTS,
         value,
         slopes,
         record_joints,

@@ -4,7 +4,8 @@ use crate::tally;
 use crate::tally::Counts;
 use libc::STDOUT_FILENO;
 ghost use mathlib.Core.Path.{_≡_};
-ghost use Rattle.replay.specs.Tally.{sumOf, casesOf, differOf};
+ghost use Rattle.stored_answers.specs.Records.{sumOf};
+ghost use Rattle.replay.specs.Tally.{casesOf, differOf};
 
 fn print_counts(t: Counts) {
     io::write_all(STDOUT_FILENO, b": ");

@@ -1,33 +1,16 @@
 // How many of a call's records there are, and how many differ.
 use crate::cases;
-use crate::stored;
+use crate::table;
+use stored_answers::stored;
 ghost use mathlib.Core.Path.{_≡_};
 ghost use Prim.Native.Nat.{_+_, _≤_, _^_};
-ghost use Rattle.replay.specs.Tally.{listsOf, endOf, isCase, isDifferent, casesOf, differOf};
+ghost use Rattle.stored_answers.specs.Records.{isCase, isDifferent};
+ghost use Rattle.replay.specs.Cases.{recordAgrees};
+ghost use Rattle.replay.specs.Tally.{endOf, casesOf, differOf};
 
 pub struct Counts {
     pub cases: usize,
     pub differ: usize,
-}
-
-// How many lists a record of the call has.
-fn lists(call: usize) -> usize
-    ensures { λ r. ⌜ (r ≡ listsOf call) × (r ≤ 12) ⌝ }
-{
-    match call {
-        0 => return 4,
-        1 => return 5,
-        2 => return 6,
-        3 => return 6,
-        4 => return 7,
-        5 => return 8,
-        6 => return 7,
-        7 => return 7,
-        8 => return 10,
-        9 => return 10,
-        10 => return 12,
-        _ => return 2,
-    }
 }
 
 // Where the record at `at` ends.
@@ -35,14 +18,14 @@ pub fn record_end(s: &[u8], at: usize) -> usize
     requires { ⌜ at ≤ 2 ^ 40 ⌝ }
     ensures { λ r. ⌜ (r ≡ endOf (now (s .entry)) at) × (r ≤ at + 786448) ⌝ }
 {
-    stored::place(s, at, lists(stored::number_at(s, at)))
+    stored::place(s, at, table::lists(stored::number_at(s, at)))
 }
 
 // The tally with the record at `at`, where it is one of the call.
 fn counted(s: &[u8], at: usize, call: usize, t: Counts) -> Counts
     requires { ⌜ (at ≤ 2 ^ 40) × (t .cases ≤ 65535) × (t .differ ≤ 65535) ⌝ }
     ensures { λ r. ⌜ (r .cases ≡ t .cases + isCase (now (s .entry)) call at) × (r .cases ≤ t .cases + 1)
-        × (r .differ ≡ t .differ + isDifferent (now (s .entry)) call at) × (r .differ ≤ t .differ + 1) ⌝ }
+        × (r .differ ≡ t .differ + isDifferent (recordAgrees (now (s .entry)) at) (now (s .entry)) call at) × (r .differ ≤ t .differ + 1) ⌝ }
 {
     if stored::number_at(s, at) != call {
         return t;

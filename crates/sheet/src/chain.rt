@@ -1,8 +1,10 @@
 // Chains and joints: `sizes` has the links of each chain, without the chain count in front.
 use super::code;
+use super::reader;
 ghost use mathlib.Core.Path.{_≡_};
 ghost use Prim.Native.Nat.{_+_, _≤_, _<_, _^_};
 ghost use lib.ListN.{length, getD};
+ghost use Rattle.sheet.specs.Code.{hasJoint};
 ghost use Rattle.sheet.specs.Chain.{firstIn, endIn, total, jointsOf, jointOf};
 
 // Whether a link is the first of a chain.
@@ -59,16 +61,31 @@ pub fn total_links(sizes: &[u16]) -> usize
     s
 }
 
+// Whether a link has a joint.
+pub fn has_joint_at(codes: &[u16], link: usize) -> bool
+    ensures { λ r. ⌜ r ≡ hasJoint (getD (now (codes .entry)) link 0) ⌝ }
+{
+    code::has_joint(reader::read(codes, link))
+}
+
+// The joints with that of a link of that code.
+fn counted(code: u16, joints: usize) -> usize
+    requires { ⌜ joints + 1 < 2 ^ 64 ⌝ }
+    ensures { λ r. ⌜ r ≡ joints + jointsOf code ⌝ }
+{
+    if code::has_joint(code) {
+        joints + 1
+    } else {
+        joints
+    }
+}
+
 // The number of the joint after a link.
 pub fn next_joint(codes: &[u16], link: usize, joint: usize) -> usize
     requires { ⌜ (link < length (now codes)) × (joint + 1 < 2 ^ 64) ⌝ }
     ensures { λ r. ⌜ r ≡ joint + jointsOf (getD (now (codes .entry)) link 0) ⌝ }
 {
-    if code::has_joint(codes[link]) {
-        joint + 1
-    } else {
-        joint
-    }
+    counted(reader::read(codes, link), joint)
 }
 
 // The number of a link's joint; at the length of the list, the number of all joints.
@@ -76,11 +93,11 @@ pub fn joint_number(codes: &[u16], link: usize) -> usize
     requires { ⌜ link ≤ length (now codes) ⌝ }
     ensures { λ r. ⌜ r ≡ jointOf (now (codes .entry)) link ⌝ }
 {
+    let mut r = reader::new(codes, 0);
     let mut j: usize = 0;
-    let mut l = 0;
-    while l < link {
-        j = next_joint(codes, l, j);
-        l += 1;
+    while r.link < link {
+        j = counted(reader::next(r), j);
+        r = reader::moved(r);
     }
     j
 }

@@ -68,17 +68,23 @@ turnedBy (Sliding a) q t = q
 unfoldable pub carriedOf : Pose → Vec3 → Vec3
 carriedOf p d = addOf (rotateOf (p .rotation) d) (p .position)
 
--- a prismatic joint moves along the base's axis, unrotated, from where the displacement carries it; with axis none it stays at the point before
-unfoldable pub slidOf : Vec3 → Vec3 → ℕ → Float → Vec3
-slidOf before carried a v = vecIf (eqb a 0) before (addOf carried (alongOf a v))
+-- a joint's slide by v along axis a, q being the rotation after its link: a prismatic one moves along the base's axis, unrotated, where URDF's moves along q's
+unfoldable pub slideOf : Quat → ℕ → Float → Vec3
+slideOf q a v = alongOf a v
 
--- the position after a link of displacement d, its joint at v
-unfoldable pub movedOf : Kind → Pose → Vec3 → Float → Vec3
-movedOf Fixed p d v = carriedOf p d
-movedOf Unlisted p d v = carriedOf p d
-movedOf (Turning a) p d v = carriedOf p d
-movedOf (Sliding a) p d v = slidOf (p .position) (carriedOf p d) a v
+-- from where the displacement carries it; with axis none it stays at the point before
+unfoldable pub slidOf : Vec3 → Vec3 → Quat → ℕ → Float → Vec3
+slidOf before carried q a v = vecIf (eqb a 0) before (addOf carried (slideOf q a v))
+
+-- the position after a link of displacement d, q being the rotation after it and v its joint's value
+unfoldable pub movedOf : Kind → Pose → Vec3 → Quat → Float → Vec3
+movedOf Fixed p d q v = carriedOf p d
+movedOf Unlisted p d q v = carriedOf p d
+movedOf (Turning a) p d q v = carriedOf p d
+movedOf (Sliding a) p d q v = slidOf (p .position) (carriedOf p d) q a v
 
 -- the pose after a link of displacement d and offset o, its joint at v
 unfoldable pub linkOf : Kind → Vec3 → Quat → Float → Pose → Pose
-linkOf kind d o v p = record { position = movedOf kind p d v; rotation = turnedBy kind (offsetOf (p .rotation) o) (jointTurn kind v) }
+linkOf kind d o v p =
+    let q = turnedBy kind (offsetOf (p .rotation) o) (jointTurn kind v) in
+    record { position = movedOf kind p d q v; rotation = q }

@@ -142,12 +142,16 @@ after-rotation cs gs x p l j = refl
 
 -- a link's pose, whose rotation is known
 pub pose-known : (cs : List ℕ) (gs x : List Float) (p : Pose) (l j : ℕ) (kind : Kind) (d : Vec3) (v : Float) (m : Vec3) (q : Quat) → kind ≡ kindAt cs l → d ≡ vecAt gs (7 * l)
-    → v ≡ valueOf cs x l j → m ≡ movedOf kind p d v → q ≡ afterLink cs gs x p l j .rotation → record { position = m; rotation = q } ≡ afterLink cs gs x p l j
+    → v ≡ valueOf cs x l j → m ≡ movedOf kind p d q v → q ≡ afterLink cs gs x p l j .rotation → record { position = m; rotation = q } ≡ afterLink cs gs x p l j
 unfolding afterLink linkOf
 pose-known cs gs x p l j kind d v m q e₁ e₂ e₃ e₄ e₅ =
     ap (λ (z : Quat). record { position = m; rotation = z }) e₅
     ∙ ap (λ (z : Vec3). record { position = z; rotation = afterLink cs gs x p l j .rotation })
-    (e₄ ∙ ap (λ (z : Kind). movedOf z p d v) e₁ ∙ ap (λ (z : Vec3). movedOf (kindAt cs l) p z v) e₂ ∙ ap (movedOf (kindAt cs l) p (vecAt gs (7 * l))) e₃)
+    (e₄
+    ∙ ap (λ (z : Kind). movedOf z p d q v) e₁
+    ∙ ap (λ (z : Vec3). movedOf (kindAt cs l) p z q v) e₂
+    ∙ ap (λ (z : Quat). movedOf (kindAt cs l) p (vecAt gs (7 * l)) z v) e₅
+    ∙ ap (movedOf (kindAt cs l) p (vecAt gs (7 * l)) (afterLink cs gs x p l j .rotation)) e₃)
 
 -- the rotations made of a block's turns are those of its walk
 module _ (ns cs : List ℕ) (gs x ts : List Float) (turned : Turned cs x ts) where

@@ -7,7 +7,6 @@ use geometry::quaternion::Quat;
 use geometry::vector;
 use geometry::vector::Vec3;
 use sheet::chain;
-use sheet::code;
 use sheet::code::Kind;
 use sheet::reader;
 ghost use mathlib.Core.Path.{_≡_};
@@ -16,7 +15,7 @@ ghost use lib.ListN.{length, getD};
 ghost use Rattle.lists.specs.Splice.{splice};
 ghost use Rattle.sheet.specs.Chain.{jointsOf, joints};
 ghost use Rattle.spacetime.specs.Floats.{quatAt};
-ghost use Rattle.spacetime.specs.Link.{isNone, offsetOf, signedBy, alongOf, turnOf, jointTurn, aboutOf, turnedBy, carriedOf, slidOf, movedOf, linkOf};
+ghost use Rattle.spacetime.specs.Link.{isNone, offsetOf, signedBy, alongOf, turnOf, jointTurn, aboutOf, turnedBy, carriedOf, slideOf, slidOf, movedOf, linkOf};
 ghost use Rattle.spacetime.specs.Walk.{valueOf, afterLink, startOf, Sheet, framesOf};
 ghost use Rattle.spacetime.specs.Turns.{turnsOf, startTurn, afterTurn, rotationsBy, Rotated};
 
@@ -134,23 +133,30 @@ fn carried(p: Pose, d: Vec3) -> Vec3
     vector::add(quaternion::rotate(q, d), at)
 }
 
-fn slid(before: Vec3, carried: Vec3, axis: u16, v: f64) -> Vec3
-    ensures { λ r. ⌜ r ≡ slidOf before carried axis v ⌝ }
+// A joint's slide by v. `rotation`, after its link, is what a slide along the link's own axis would ask: a prismatic joint goes along the base's.
+fn slide(rotation: Quat, axis: u16, v: f64) -> Vec3
+    ensures { λ r. ⌜ r ≡ slideOf rotation axis v ⌝ }
+{
+    along(axis, v)
+}
+
+fn slid(before: Vec3, carried: Vec3, rotation: Quat, axis: u16, v: f64) -> Vec3
+    ensures { λ r. ⌜ r ≡ slidOf before carried rotation axis v ⌝ }
 {
     if axis == 0 {
         return before;
     }
-    vector::add(carried, along(axis, v))
+    vector::add(carried, slide(rotation, axis, v))
 }
 
-// The position after a link. Every kind but a slide with axis none is carried, so that is worked out first, and stands in the code once.
-fn moved(kind: Kind, p: Pose, d: Vec3, v: f64) -> Vec3
-    ensures { λ r. ⌜ r ≡ movedOf kind p d v ⌝ }
+// The position after a link, asked with the rotation after it. Every kind but a slide with axis none is carried, so that is worked out first, and stands in the code once.
+fn moved(kind: Kind, p: Pose, d: Vec3, rotation: Quat, v: f64) -> Vec3
+    ensures { λ r. ⌜ r ≡ movedOf kind p d rotation v ⌝ }
 {
     let c = carried(p, d);
     match kind {
         Kind::Turning(_) => c,
-        Kind::Sliding(axis) => slid(p.position, c, axis, v),
+        Kind::Sliding(axis) => slid(p.position, c, rotation, axis, v),
         Kind::Fixed => c,
         Kind::Unlisted => c,
     }
@@ -161,9 +167,10 @@ fn link(kind: Kind, d: Vec3, o: Quat, v: f64, t: Quat, p: Pose) -> Pose
     requires { ⌜ t ≡ jointTurn kind v ⌝ }
     ensures { λ r. ⌜ r ≡ linkOf kind d o v p ⌝ }
 {
+    let rotation = turned(kind, offset(p.rotation, o), t);
     Pose {
-        position: moved(kind, p, d, v),
-        rotation: turned(kind, offset(p.rotation, o), t),
+        position: moved(kind, p, d, rotation, v),
+        rotation,
     }
 }
 
@@ -171,7 +178,7 @@ fn value(codes: &[u16], block: &[f64], link: usize, joint: usize) -> f64
     requires { ⌜ (link < length (now codes)) × (joint + jointsOf (getD (now codes) link 0) ≤ length (now block)) ⌝ }
     ensures { λ r. ⌜ r ≡ valueOf (now (codes .entry)) (now (block .entry)) link joint ⌝ }
 {
-    if code::has_joint(codes[link]) {
+    if chain::has_joint_at(codes, link) {
         block[joint]
     } else {
         0.0
@@ -182,18 +189,18 @@ fn value(codes: &[u16], block: &[f64], link: usize, joint: usize) -> f64
 pub fn after_link(
     p: Pose,
     codes: &[u16],
-    geo: &[f64],
+    floats: &[f64],
     block: &[f64],
     at: usize,
     joint: usize,
 ) -> Pose
-    requires { ⌜ (at < length (now codes)) × (7 * at + 7 ≤ length (now geo)) ⌝ }
+    requires { ⌜ (at < length (now codes)) × (7 * at + 7 ≤ length (now floats)) ⌝ }
     requires { ⌜ joint + jointsOf (getD (now codes) at 0) ≤ length (now block) ⌝ }
-    ensures { λ r. ⌜ r ≡ afterLink (now (codes .entry)) (now (geo .entry)) (now (block .entry)) p at joint ⌝ }
+    ensures { λ r. ⌜ r ≡ afterLink (now (codes .entry)) (now (floats .entry)) (now (block .entry)) p at joint ⌝ }
 {
     let kind = reader::kind_at(codes, at);
-    let d = floats::get_vec(geo, 7 * at);
-    let o = floats::get_quat(geo, 7 * at + 3);
+    let d = floats::get_vec(floats, 7 * at);
+    let o = floats::get_quat(floats, 7 * at + 3);
     let v = value(codes, block, at, joint);
     link(kind, d, o, v, joint_turn(kind, v), p)
 }
@@ -234,24 +241,24 @@ fn start_rotation(sizes: &[u16], at: usize, q: Quat) -> Quat
 }
 
 // The rotation after a link that is met with q, its turn t.
-fn after_turn(codes: &[u16], geo: &[f64], q: Quat, at: usize, t: Quat) -> Quat
-    requires { ⌜ 7 * at + 7 ≤ length (now geo) ⌝ }
-    ensures { λ r. ⌜ r ≡ afterTurn (now (codes .entry)) (now (geo .entry)) q at t ⌝ }
+fn after_turn(codes: &[u16], floats: &[f64], q: Quat, at: usize, t: Quat) -> Quat
+    requires { ⌜ 7 * at + 7 ≤ length (now floats) ⌝ }
+    ensures { λ r. ⌜ r ≡ afterTurn (now (codes .entry)) (now (floats .entry)) q at t ⌝ }
 {
-    let o = floats::get_quat(geo, 7 * at + 3);
+    let o = floats::get_quat(floats, 7 * at + 3);
     turned(reader::kind_at(codes, at), offset(q, o), t)
 }
 
 // Each link's turn gives way to the rotation after the link: rotations do not wait for positions.
-fn walk_rotations(sizes: &[u16], codes: &[u16], geo: &[f64], turns: &mut [f64])
-    requires { ⌜ (7 * length (now codes) ≤ length (now geo)) × (4 * length (now codes) ≤ length (now turns)) × (length (now codes) ≤ 64) ⌝ }
-    ensures { λ _. ⌜ now (turns .exit) ≡ splice (now (turns .entry)) 0 (rotationsBy (now (sizes .entry)) (now (codes .entry)) (now (geo .entry)) (now (turns .entry))) ⌝ }
+fn walk_rotations(sizes: &[u16], codes: &[u16], floats: &[f64], turns: &mut [f64])
+    requires { ⌜ (7 * length (now codes) ≤ length (now floats)) × (4 * length (now codes) ≤ length (now turns)) × (length (now codes) ≤ 64) ⌝ }
+    ensures { λ _. ⌜ now (turns .exit) ≡ splice (now (turns .entry)) 0 (rotationsBy (now (sizes .entry)) (now (codes .entry)) (now (floats .entry)) (now (turns .entry))) ⌝ }
 {
     let mut q = quaternion::identity();
     let mut at: usize = 0;
     while at < codes.len() {
         let t = floats::get_quat(turns, 4 * at);
-        q = after_turn(codes, geo, start_rotation(sizes, at, q), at, t);
+        q = after_turn(codes, floats, start_rotation(sizes, at, q), at, t);
         floats::put_quat(turns, 4 * at, q);
         at += 1;
     }
@@ -261,23 +268,24 @@ fn walk_rotations(sizes: &[u16], codes: &[u16], geo: &[f64], turns: &mut [f64])
 fn after_known(
     p: Pose,
     codes: &[u16],
-    geo: &[f64],
+    floats: &[f64],
     block: &[f64],
     rotations: &[f64],
     at: usize,
     joint: usize,
 ) -> Pose
-    requires { ⌜ (at < length (now codes)) × (7 * at + 7 ≤ length (now geo)) × (4 * at + 4 ≤ length (now rotations)) ⌝ }
+    requires { ⌜ (at < length (now codes)) × (7 * at + 7 ≤ length (now floats)) × (4 * at + 4 ≤ length (now rotations)) ⌝ }
     requires { ⌜ joint + jointsOf (getD (now codes) at 0) ≤ length (now block) ⌝ }
-    requires { ⌜ quatAt (now rotations) (4 * at) ≡ afterLink (now codes) (now geo) (now block) p at joint .rotation ⌝ }
-    ensures { λ r. ⌜ r ≡ afterLink (now (codes .entry)) (now (geo .entry)) (now (block .entry)) p at joint ⌝ }
+    requires { ⌜ quatAt (now rotations) (4 * at) ≡ afterLink (now codes) (now floats) (now block) p at joint .rotation ⌝ }
+    ensures { λ r. ⌜ r ≡ afterLink (now (codes .entry)) (now (floats .entry)) (now (block .entry)) p at joint ⌝ }
 {
     let kind = reader::kind_at(codes, at);
-    let d = floats::get_vec(geo, 7 * at);
+    let d = floats::get_vec(floats, 7 * at);
     let v = value(codes, block, at, joint);
+    let rotation = floats::get_quat(rotations, 4 * at);
     Pose {
-        position: moved(kind, p, d, v),
-        rotation: floats::get_quat(rotations, 4 * at),
+        position: moved(kind, p, d, rotation, v),
+        rotation,
     }
 }
 
@@ -285,21 +293,29 @@ fn after_known(
 fn walk(
     sizes: &[u16],
     codes: &[u16],
-    geo: &[f64],
+    floats: &[f64],
     block: &[f64],
     rotations: &[f64],
     out: &mut [f64],
 )
-    requires { ⌜ Sheet (now sizes) (now codes) (now geo) (now block) ⌝ }
-    requires { ⌜ Rotated (now sizes) (now codes) (now geo) (now block) (now rotations) ⌝ }
+    requires { ⌜ Sheet (now sizes) (now codes) (now floats) (now block) ⌝ }
+    requires { ⌜ Rotated (now sizes) (now codes) (now floats) (now block) (now rotations) ⌝ }
     requires { ⌜ 7 * length (now codes) ≤ length (now out) ⌝ }
-    ensures { λ _. ⌜ now (out .exit) ≡ splice (now (out .entry)) 0 (framesOf (now (sizes .entry)) (now (codes .entry)) (now (geo .entry)) (now (block .entry))) ⌝ }
+    ensures { λ _. ⌜ now (out .exit) ≡ splice (now (out .entry)) 0 (framesOf (now (sizes .entry)) (now (codes .entry)) (now (floats .entry)) (now (block .entry))) ⌝ }
 {
     let mut p = pose::origin();
     let mut joint: usize = 0;
     let mut at: usize = 0;
     while at < codes.len() {
-        p = after_known(start(sizes, at, p), codes, geo, block, rotations, at, joint);
+        p = after_known(
+            start(sizes, at, p),
+            codes,
+            floats,
+            block,
+            rotations,
+            at,
+            joint,
+        );
         floats::put(out, 7 * at, p);
         joint = chain::next_joint(codes, at, joint);
         at += 1;
@@ -310,16 +326,16 @@ fn walk(
 pub fn get_frames_immutable(
     sizes: &[u16],
     codes: &[u16],
-    geo: &[f64],
+    floats: &[f64],
     block: &[f64],
     out: &mut [f64],
 )
-    requires { ⌜ Sheet (now sizes) (now codes) (now geo) (now block) ⌝ }
+    requires { ⌜ Sheet (now sizes) (now codes) (now floats) (now block) ⌝ }
     requires { ⌜ 7 * length (now codes) ≤ length (now out) ⌝ }
-    ensures { λ _. ⌜ now (out .exit) ≡ splice (now (out .entry)) 0 (framesOf (now (sizes .entry)) (now (codes .entry)) (now (geo .entry)) (now (block .entry))) ⌝ }
+    ensures { λ _. ⌜ now (out .exit) ≡ splice (now (out .entry)) 0 (framesOf (now (sizes .entry)) (now (codes .entry)) (now (floats .entry)) (now (block .entry))) ⌝ }
 {
     let mut rotations = [0.0; 256];
     put_turns(codes, block, &mut rotations);
-    walk_rotations(sizes, codes, geo, &mut rotations);
-    walk(sizes, codes, geo, block, &rotations, out);
+    walk_rotations(sizes, codes, floats, &mut rotations);
+    walk(sizes, codes, floats, block, &rotations, out);
 }

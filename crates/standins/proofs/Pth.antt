@@ -1,4 +1,4 @@
--- The f64 nearest a p-th root, for any p: two comparisons with the floats next to it. Assumes nothing.
+-- The f64 nearest a p-th root, for any p: two comparisons with the floats next to it.
 use mathlib.Core.Path.{_≡_, sym, subst}
 use Prim.Native.Nat.{ℕ, _+_, _-_, _*_, _^_, _≤_, _<_}
 use native.Mathlib.Nat.{lt-of-lt-of-le, lt-of-le-of-lt, mul-le-mul-right, pow-le-pow-left}

@@ -1,4 +1,4 @@
--- The size of a float, by the tests x < 0 and x == 0. Assumes nothing.
+-- The size of a float, by the tests x < 0 and x == 0.
 use mathlib.Core.Path.{_≡_, refl, sym, ap, _∙_, subst}
 use Prim.Native.Nat.{ℕ, zero, suc, _+_, _*_, _^_, _<_}
 use native.Mathlib.Nat.{mul-pos, zero-lt-suc, pow-suc}

@@ -1,4 +1,4 @@
--- A rule of a table of floats, proved at all of its entries by one list that antt computes. Assumes nothing.
+-- A rule of a table of floats, proved at all of its entries by one list that antt computes.
 use mathlib.Core.Path.{_≡_, refl, sym, ap, _∙_}
 use mathlib.Core.List.{List, [], _∷_}
 use Prim.Native.Nat.{ℕ, zero, suc, _+_, _-_, _<_, _≤_}

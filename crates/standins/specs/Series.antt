@@ -7,6 +7,7 @@ use lib.Ieee.{Float, nan, binary64, ofBits, neg, lt, ne}
 use Rattle.root.specs.Root.{rootOf}
 use Rattle.standins.specs.Num.{_⊕_, _⊖_, _⊗_, _⊘_, nought, one, whole}
 use Rattle.standins.specs.declared.series.BothSeries.{BothSeries}
+use Rattle.standins.specs.declared.series.SineCosine.{SineCosine}
 
 -- for k = n down to 1, s becomes f k s
 unfoldable pub downFrom : (ℕ → Float → Float) → ℕ → Float → Float
@@ -37,9 +38,13 @@ sineOf a = a ⊗ seriesOf sineDivisor (a ⊗ a)
 unfoldable pub cosineOf : Float → Float
 cosineOf a = seriesOf cosineDivisor (a ⊗ a)
 
--- both series of q
+-- a, and both series of its square
 abbrev pub bothSeriesOf : Float → BothSeries
-bothSeriesOf q = record { sine = seriesOf sineDivisor q; cosine = seriesOf cosineDivisor q }
+bothSeriesOf a = record { angle = a; sine = seriesOf sineDivisor (a ⊗ a); cosine = seriesOf cosineDivisor (a ⊗ a) }
+
+-- sine and cosine of a
+abbrev pub sineCosineOf : Float → SineCosine
+sineCosineOf a = record { sine = sineOf a; cosine = cosineOf a }
 
 -- ---- exponential
 

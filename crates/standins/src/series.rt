@@ -1,6 +1,6 @@
 // Sine, cosine, the exponential and the arc tangent: each a series worked out from its last term down, one rounding for each operation.
 ghost use mathlib.Core.Path.{_≡_};
-ghost use Rattle.standins.specs.Series.{bothSeriesOf, sineOf, cosineOf, expSeriesOf, squarings, expOf, halvedOf, arcSeriesOf, smallAngleOf, atan2Of};
+ghost use Rattle.standins.specs.Series.{sineOf, cosineOf, sineCosineOf, bothSeriesOf, expSeriesOf, squarings, expOf, halvedOf, arcSeriesOf, smallAngleOf, atan2Of};
 
 // 2n·(2n+1), for n from 1
 const SINE_DIVISORS: [f64; 16] = [
@@ -42,16 +42,18 @@ const COSINE_DIVISORS: [f64; 16] = [
     992.0,
 ];
 
-// The series of the sine and of the cosine, of one square.
-pub struct BothSeries {
-    pub sine: f64,
-    pub cosine: f64,
+// An angle, and the series of the sine and of the cosine of its square.
+struct BothSeries {
+    angle: f64,
+    sine: f64,
+    cosine: f64,
 }
 
-// Both in one loop: the two chains of divisions do not wait for each other.
-pub fn both_series(q: f64) -> BothSeries
-    ensures { λ r. ⌜ r ≡ bothSeriesOf q ⌝ }
+// Both in one loop: the two chains of divisions do not wait for each other, and one instruction divides for both.
+fn both_series(a: f64) -> BothSeries
+    ensures { λ r. ⌜ r ≡ bothSeriesOf a ⌝ }
 {
+    let q = a * a;
     // Copied once: in the loop each read would copy its table.
     let sines = SINE_DIVISORS;
     let cosines = COSINE_DIVISORS;
@@ -63,21 +65,41 @@ pub fn both_series(q: f64) -> BothSeries
         c = 1.0 - c * q / cosines[n - 1];
         n -= 1;
     }
-    BothSeries { sine: s, cosine: c }
+    BothSeries {
+        angle: a,
+        sine: s,
+        cosine: c,
+    }
 }
 
-// Good for |a| up to about 4, as is the cosine.
+// The sine and the cosine of one angle.
+pub struct SineCosine {
+    pub sine: f64,
+    pub cosine: f64,
+}
+
+// Good for |a| up to about 4, as are the two alone.
+pub fn sine_cosine(a: f64) -> SineCosine
+    ensures { λ r. ⌜ r ≡ sineCosineOf a ⌝ }
+{
+    let both = both_series(a);
+    SineCosine {
+        sine: both.angle * both.sine,
+        cosine: both.cosine,
+    }
+}
+
 pub fn sin(a: f64) -> f64
     ensures { λ r. ⌜ r ≡ sineOf a ⌝ }
 {
-    let both = both_series(a * a);
-    a * both.sine
+    let both = both_series(a);
+    both.angle * both.sine
 }
 
 pub fn cos(a: f64) -> f64
     ensures { λ r. ⌜ r ≡ cosineOf a ⌝ }
 {
-    let both = both_series(a * a);
+    let both = both_series(a);
     both.cosine
 }
 

@@ -142,6 +142,7 @@ pub fn asked(call: Call, lent: &Lent, rooms: &[usize]) -> Record {
         call: call as u16,
         number,
         lists,
+        read: call.read().len(),
     }
 }
 

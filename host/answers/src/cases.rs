@@ -10,10 +10,10 @@ use reference::sheet;
 use List::{Codes, Floats, Goals, History, Joints, Limits, Sizes};
 
 /// The codes of each chain's links.
-type Shape = &'static [&'static [u16]];
+pub type Shape = &'static [&'static [u16]];
 
-const SMALL: Shape = &[&[13, 12]];
-const SHAPES: [Shape; 5] = [
+pub const SMALL: Shape = &[&[13, 12]];
+pub const SHAPES: [Shape; 5] = [
     SMALL,
     &[&[0, 14, 36, 20, 0]],
     &[&[13, 32, 0, 10], &[25, 11]],
@@ -21,7 +21,7 @@ const SHAPES: [Shape; 5] = [
     &[&[0, 13, 22, 31, 12, 15, 11, 26, 10]],
 ];
 /// Sixteen joints on four chains, and on one: asked once a call.
-const LARGE: [Shape; 2] = [
+pub const LARGE: [Shape; 2] = [
     &[
         &[13, 12, 11, 26],
         &[33, 12, 0, 11, 14],
@@ -35,7 +35,7 @@ const LARGE: [Shape; 2] = [
 
 /// A sheet of this shape with drawn numbers; everything near everything else,
 /// where the losses are not all tail.
-fn lent(shape: Shape, draw: &mut Draw) -> Lent {
+pub fn lent(shape: Shape, draw: &mut Draw) -> Lent {
     let codes = shape.concat();
     let again = |chain: &&[u16]| -> usize {
         let joints = chain.iter().enumerate().filter(|(_, &code)| code != 0);
@@ -183,10 +183,10 @@ fn cut(lent: &mut Lent, list: List, bytes: usize) {
 
 /// What is done to lists that would be taken, the refusal that follows, and
 /// the list that must be read for it.
-type Fault = (u32, List, fn(&mut Lent));
+pub type Fault = (u32, List, fn(&mut Lent));
 
 #[rustfmt::skip]
-const FAULTS: [Fault; 30] = [
+pub const FAULTS: [Fault; 30] = [
     (1, Sizes, |l| l.bytes[Sizes as usize].clear()),
     (1, Sizes, |l| put_u16(l, Sizes, 0, 5)),
     (1, Sizes, |l| put_u16(l, Sizes, 0, 0)),

@@ -267,6 +267,7 @@ pub fn all(draw: &mut Draw) -> Vec<Record> {
                 call,
                 number: 0,
                 lists: vec![float_bytes(&x), answer_bytes(&answer(call, &x))],
+                read: 1,
             });
         }
     }

@@ -1,47 +1,84 @@
-//! Writes the list of the reference run's answers that `crates/replay` replays
-//! on the proved code. This program knows the published files and the stand-in
-//! functions, and nothing of the proved library.
+//! Writes the lists of the reference run's answers that `crates/replay` and
+//! `crates/sequences` hold the proved code to. This program knows the published
+//! files and the stand-in functions, and nothing of the proved library.
 
 #![forbid(unsafe_code)]
 
 mod arms;
 mod cases;
+mod damage;
 mod leaves;
 mod record;
+mod sequences;
 
 use draw::Draw;
+use record::Record;
+use std::fs;
 use std::path::Path;
 use std::process::ExitCode;
-use std::{env, fs};
 
 const USAGE: &str = "\
-answers FILE [--check]
+answers FILE [--sequences] [--check | --damage KIND]
 
-  FILE     the stored list
-  --check  writes nothing, and says whether the file is as it would be
-           written; the last line is 'N passed, M failed'";
+  FILE           the stored list
+  --sequences    sequences of calls on the state, for crates/sequences, in
+                 place of single calls, for crates/replay
+  --check        writes nothing, and says whether the file is as it would be
+                 written; the last line is 'N passed, M failed'
+  --damage KIND  writes the list with damage: answers that differ, or a list
+                 that is cut short, has an unknown call, has a byte behind its
+                 last record or is too long: differ, short, unknown, behind,
+                 long";
 
 /// Another seed draws other cases.
 const SEED: u64 = 7;
 
-/// The list, and how many records it has.
-fn list() -> Result<(Vec<u8>, usize), String> {
+/// What is written: single calls, or sequences of calls on the state.
+#[derive(Clone, Copy, PartialEq)]
+enum Kind {
+    Calls,
+    Sequences,
+}
+
+fn records(kind: Kind) -> Vec<Record> {
     let mut draw = Draw::new(SEED);
-    let mut records = cases::all(&mut draw);
-    records.extend(leaves::all(&mut draw));
-    Ok((record::stored(&records)?, records.len()))
+    match kind {
+        Kind::Calls => {
+            let mut records = cases::all(&mut draw);
+            records.extend(leaves::all(&mut draw));
+            records
+        }
+        Kind::Sequences => sequences::all(&mut draw),
+    }
 }
 
-fn write(path: &Path) -> Result<String, String> {
-    let (bytes, count) = list()?;
-    fs::write(path, &bytes).map_err(|error| format!("{}: {error}", path.display()))?;
-    Ok(format!("{count} records, {} bytes", bytes.len()))
+fn write(path: &Path, bytes: &[u8]) -> Result<(), String> {
+    fs::write(path, bytes).map_err(|error| format!("{}: {error}", path.display()))
 }
 
-fn check(path: &Path) -> Result<String, String> {
-    let (bytes, _) = list()?;
+fn write_list(path: &Path, kind: Kind) -> Result<String, String> {
+    let records = records(kind);
+    let bytes = record::stored(&records)?;
+    write(path, &bytes)?;
+    Ok(format!("{} records, {} bytes", records.len(), bytes.len()))
+}
+
+fn write_damaged(path: &Path, kind: Kind, damage: &str) -> Result<String, String> {
+    let bytes = damage::damaged(records(kind), damage)?;
+    write(path, &bytes)?;
+    Ok(format!("{damage}: {} bytes", bytes.len()))
+}
+
+fn check(path: &Path, kind: Kind) -> Result<String, String> {
+    let records = records(kind);
+    if kind == Kind::Sequences {
+        match sequences::counts(&records) {
+            Ok(lines) => print!("{lines}"),
+            Err(lines) => return Err(format!("{lines}\n0 passed, 1 failed")),
+        }
+    }
     let found = fs::read(path).map_err(|error| format!("{}: {error}", path.display()))?;
-    if found == bytes {
+    if found == record::stored(&records)? {
         return Ok("1 passed, 0 failed".to_string());
     }
     println!("{}: not as it would be written", path.display());
@@ -49,26 +86,21 @@ fn check(path: &Path) -> Result<String, String> {
 }
 
 fn main() -> ExitCode {
-    let arguments: Vec<String> = env::args().skip(1).collect();
-    let words: Vec<&str> = arguments.iter().map(String::as_str).collect();
-    let done = match words[..] {
-        [path] if !path.starts_with('-') => write(Path::new(path)),
-        [path, "--check"] | ["--check", path] => check(Path::new(path)),
-        _ => {
-            eprintln!("{USAGE}");
-            return ExitCode::from(2);
-        }
+    let mut words = command_line::words();
+    let all = words.len();
+    words.retain(|word| word != "--sequences");
+    let kind = match all - words.len() {
+        0 => Kind::Calls,
+        _ => Kind::Sequences,
     };
-    match done {
-        Ok(line) => {
-            println!("{line}");
-            ExitCode::SUCCESS
-        }
-        Err(line) => {
-            println!("{line}");
-            ExitCode::FAILURE
-        }
-    }
+    let words: Vec<&str> = words.iter().map(String::as_str).collect();
+    let done = match words[..] {
+        [path] if !path.starts_with('-') => Some(write_list(Path::new(path), kind)),
+        [path, "--check"] | ["--check", path] => Some(check(Path::new(path), kind)),
+        [path, "--damage", damage] => Some(write_damaged(Path::new(path), kind, damage)),
+        _ => None,
+    };
+    command_line::finish(USAGE, done)
 }
 
 #[cfg(test)]
@@ -76,12 +108,14 @@ mod tests {
     use super::*;
 
     #[test]
-    fn the_stored_list_is_up_to_date() {
-        let path = Path::new(env!("CARGO_MANIFEST_DIR")).join("../../crates/replay/stdin");
-        let found = fs::read(path).unwrap_or_default();
-        assert!(
-            found == list().expect("a list").0,
-            "run `answers crates/replay/stdin` at the root"
-        );
+    fn the_stored_lists_are_up_to_date() {
+        for (kind, name) in [(Kind::Calls, "replay"), (Kind::Sequences, "sequences")] {
+            let root = Path::new(env!("CARGO_MANIFEST_DIR")).join("../../crates");
+            let found = fs::read(root.join(name).join("stdin")).unwrap_or_default();
+            assert!(
+                found == record::stored(&records(kind)).expect("a list"),
+                "write crates/{name}/stdin again at the root"
+            );
+        }
     }
 }

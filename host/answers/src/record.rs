@@ -1,4 +1,5 @@
-//! A case as it is stored; `crates/replay/README.md` has the format.
+//! A case as it is stored; `crates/replay/README.md` has the format, which
+//! `crates/sequences` shares.
 
 /// Every NaN that is answered is stored with this pattern.
 const NAN: u64 = 0x7ff8_0000_0000_0000;
@@ -11,6 +12,15 @@ pub struct Record {
     pub number: u32,
     /// The lists that the call reads, then its outputs as it leaves them.
     pub lists: Vec<Vec<u8>>,
+    /// How many of them are read.
+    pub read: usize,
+}
+
+impl Record {
+    /// The bytes of its outputs.
+    pub fn outputs(&mut self) -> impl Iterator<Item = &mut u8> {
+        self.lists[self.read..].iter_mut().flatten()
+    }
 }
 
 pub fn u16_bytes(numbers: &[u16]) -> Vec<u8> {

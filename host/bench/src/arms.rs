@@ -5,11 +5,11 @@
 //! have the plain reading of the refusals on the other side.
 
 use crate::{Draw, Rows};
-use proved::arms::{self, Sheet};
-use proved::{put_floats, put_u16s};
+use reference::groove::vars::RelaxedIKVars;
 use reference::refusals::{self, f64s, u16s};
 use reference::sheet;
 use reference::spacetime::robot::Robot;
+use relaxed_ik::bytes::{self, put_floats, put_u16s, Sheet};
 use std::cell::RefCell;
 
 /// Chains that turn at every link, axes in turn, in numbers and in bytes.
@@ -152,8 +152,10 @@ impl Decoded {
 pub fn rows(rows: &mut Rows, draw: &mut Draw, label: &str, chains: &Chains) {
     checks(rows, draw, label, chains);
     let blocks: Vec<Block> = (0..BLOCKS).map(|_| Block::new(chains, draw)).collect();
-    walks(rows, label, chains, &blocks);
-    histories(rows, label, chains, &blocks);
+    frames(rows, label, chains, &blocks);
+    ends(rows, label, chains, &blocks);
+    reset(rows, label, chains, &blocks);
+    update(rows, label, chains, &blocks);
 }
 
 /// Nothing published checks a sheet or goals: the other side is the plain
@@ -172,14 +174,14 @@ fn checks(rows: &mut Rows, draw: &mut Draw, label: &str, chains: &Chains) {
     rows.row(
         &format!("load, {label}"),
         &sheets,
-        |(chains, _)| f64::from(arms::load(chains.sheet())),
+        |(chains, _)| f64::from(bytes::load(chains.sheet())),
         |(chains, _)| f64::from(refusals::load(&decoded.borrow_mut().sheet(chains))),
     );
     let numbers = RefCell::new(Vec::new());
     rows.row(
         &format!("set_goals, {label}"),
         &sheets,
-        |(chains, block)| f64::from(arms::set_goals(chains.sheet(), &block.goals_bytes)),
+        |(chains, block)| f64::from(bytes::set_goals(chains.sheet(), &block.goals_bytes)),
         |(chains, block)| {
             let (decoded, numbers) = (&mut *decoded.borrow_mut(), &mut *numbers.borrow_mut());
             let goals = f64s(&block.goals_bytes, numbers);
@@ -188,7 +190,7 @@ fn checks(rows: &mut Rows, draw: &mut Draw, label: &str, chains: &Chains) {
     );
 }
 
-fn walks(rows: &mut Rows, label: &str, chains: &Chains, blocks: &[Block]) {
+fn frames(rows: &mut Rows, label: &str, chains: &Chains, blocks: &[Block]) {
     let outputs = RefCell::new(Outputs::new(chains));
     rows.row(
         &format!("frames, {label}"),
@@ -201,7 +203,7 @@ fn walks(rows: &mut Rows, label: &str, chains: &Chains, blocks: &[Block]) {
             } = &mut *outputs.borrow_mut();
             let sheet = chains.sheet();
             last(
-                arms::frames(sheet, &block.joints_bytes, positions, rotations),
+                bytes::frames(sheet, &block.joints_bytes, positions, rotations),
                 rotations,
             )
         },
@@ -211,12 +213,16 @@ fn walks(rows: &mut Rows, label: &str, chains: &Chains, blocks: &[Block]) {
             rotations[rotations.len() - 1].k
         },
     );
+}
+
+fn ends(rows: &mut Rows, label: &str, chains: &Chains, blocks: &[Block]) {
+    let outputs = RefCell::new(Outputs::new(chains));
     rows.row(
         &format!("pose, {label}"),
         blocks,
         |block| {
             let ends = &mut outputs.borrow_mut().ends;
-            last(arms::pose(chains.sheet(), &block.joints_bytes, ends), ends)
+            last(bytes::pose(chains.sheet(), &block.joints_bytes, ends), ends)
         },
         |block| {
             let ends = chains.robot.get_ee_pos_and_quat_immutable(&block.joints);
@@ -228,24 +234,28 @@ fn walks(rows: &mut Rows, label: &str, chains: &Chains, blocks: &[Block]) {
         blocks,
         |block| {
             let value = &mut outputs.borrow_mut().value;
-            let answer = arms::manipulability(chains.sheet(), &block.joints_bytes, value);
+            let answer = bytes::manipulability(chains.sheet(), &block.joints_bytes, value);
             last(answer, value)
         },
         |block| chains.robot.get_manipulability_immutable(&block.joints),
     );
 }
 
-fn histories(rows: &mut Rows, label: &str, chains: &Chains, blocks: &[Block]) {
-    let outputs = RefCell::new(Outputs::new(chains));
+/// The published variables after a first reset.
+fn started(chains: &Chains, blocks: &[Block]) -> RefCell<RelaxedIKVars> {
     let mut vars = sheet::loaded(chains.robot.clone());
     vars.reset(blocks[0].joints.clone());
-    let vars = RefCell::new(vars);
+    RefCell::new(vars)
+}
+
+fn reset(rows: &mut Rows, label: &str, chains: &Chains, blocks: &[Block]) {
+    let (outputs, vars) = (RefCell::new(Outputs::new(chains)), started(chains, blocks));
     rows.row(
         &format!("reset, {label}"),
         blocks,
         |block| {
             let Outputs { history, ends, .. } = &mut *outputs.borrow_mut();
-            let answer = arms::reset(chains.sheet(), &block.joints_bytes, history, ends);
+            let answer = bytes::reset(chains.sheet(), &block.joints_bytes, history, ends);
             last(answer, ends)
         },
         |block| {
@@ -254,8 +264,12 @@ fn histories(rows: &mut Rows, label: &str, chains: &Chains, blocks: &[Block]) {
             vars.init_ee_quats[vars.init_ee_quats.len() - 1].k
         },
     );
-    // The published update copies four blocks and looks at nothing; the checks
-    // are put before it.
+}
+
+/// The published update copies four blocks and looks at nothing; the checks are
+/// put before it.
+fn update(rows: &mut Rows, label: &str, chains: &Chains, blocks: &[Block]) {
+    let (outputs, vars) = (RefCell::new(Outputs::new(chains)), started(chains, blocks));
     let decoded = RefCell::new((Decoded::default(), Vec::new(), Vec::new()));
     rows.row(
         &format!("update, {label}"),
@@ -267,7 +281,7 @@ fn histories(rows: &mut Rows, label: &str, chains: &Chains, blocks: &[Block]) {
                 joints_bytes,
                 ..
             } = block;
-            let answer = arms::update(chains.sheet(), history_bytes, joints_bytes, history);
+            let answer = bytes::update(chains.sheet(), history_bytes, joints_bytes, history);
             assert_eq!(answer, refusals::ACCEPTED);
             first(history)
         },

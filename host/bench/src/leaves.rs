@@ -3,6 +3,8 @@
 use crate::{digits, Draw, Rows};
 use nalgebra::{DMatrix, Point3, Quaternion, UnitQuaternion, Vector3};
 use parry3d_f64::{query, shape::Segment};
+use relaxed_ik::bytes::put_floats;
+use relaxed_ik::leaves;
 use std::hint::black_box;
 
 fn unit(q: &[f64; 4]) -> UnitQuaternion<f64> {
@@ -10,8 +12,14 @@ fn unit(q: &[f64; 4]) -> UnitQuaternion<f64> {
 }
 
 pub fn rows(rows: &mut Rows, draw: &mut Draw) {
+    standins(rows, draw);
+    shapes(rows, draw);
+    determinant(rows, draw);
+}
+
+fn standins(rows: &mut Rows, draw: &mut Draw) {
     let radicands = draw.inputs(|d| d.between(0.0, 100.0));
-    let root = |x: &f64| proved::sqrt(*x);
+    let root = |x: &f64| leaves::sqrt(*x);
     rows.row("sqrt, against digit by digit", &radicands, root, |x| {
         digits::root(*x)
     });
@@ -20,37 +28,39 @@ pub fn rows(rows: &mut Rows, draw: &mut Draw) {
     });
 
     let angles = draw.inputs(|d| d.between(-4.0, 4.0));
-    rows.row("sin", &angles, |a| proved::sin(*a), |a| standins::sin(*a));
-    rows.row("cos", &angles, |a| proved::cos(*a), |a| standins::cos(*a));
+    rows.row("sin", &angles, |a| leaves::sin(*a), |a| standins::sin(*a));
+    rows.row("cos", &angles, |a| leaves::cos(*a), |a| standins::cos(*a));
     let exponents = draw.inputs(|d| d.between(-700.0, 0.0));
     rows.row(
         "exp",
         &exponents,
-        |y| proved::exp(*y),
+        |y| leaves::exp(*y),
         |y| standins::exp(*y),
     );
     let sides = draw.inputs(|d| d.floats::<2>(0.0, 1.0));
     rows.row(
         "atan2",
         &sides,
-        |[n, w]| proved::atan2(*n, *w),
+        |[n, w]| leaves::atan2(*n, *w),
         |[n, w]| standins::atan2(*n, *w),
     );
+}
 
-    // A proved function of several parts gives one a call; the reference is
-    // made to give all of its parts.
+/// A proved function of several parts gives one a call; the reference is made to
+/// give all of its parts.
+fn shapes(rows: &mut Rows, draw: &mut Draw) {
     let turns = draw.inputs(Draw::quaternion);
     rows.row(
         "scaled_axis, one part a call",
         &turns,
-        |q| proved::scaled_axis_part(*q, 0),
+        |q| leaves::scaled_axis_part(*q, 0),
         |q| black_box(unit(q).scaled_axis()).x,
     );
     let pairs = draw.inputs(|d| (d.quaternion(), d.quaternion()));
     rows.row(
         "quat_product, one part a call",
         &pairs,
-        |(a, b)| proved::quat_product_part(*a, *b, 0),
+        |(a, b)| leaves::quat_product_part(*a, *b, 0),
         |(a, b)| black_box(unit(a) * unit(b)).w,
     );
 
@@ -59,25 +69,27 @@ pub fn rows(rows: &mut Rows, draw: &mut Draw) {
     rows.row(
         "segment_distance",
         &points,
-        |s| proved::segment_distance(*s),
+        |s| leaves::segment_distance(*s),
         |s| {
             let [a, b, c, d] = s.map(|p| Point3::from(Vector3::new(p[0], p[1], p[2])));
             query::distance(&place, &Segment::new(a, b), &place, &Segment::new(c, d))
                 .expect("segments can be measured")
         },
     );
+}
 
-    // Each side gets the matrix in the form it takes, made beforehand.
+/// Each side gets the matrix in the form it takes, made beforehand.
+fn determinant(rows: &mut Rows, draw: &mut Draw) {
     let matrices = draw.inputs(|d| {
         let entries = d.floats::<36>(-1.0, 1.0);
         let mut bytes = Vec::new();
-        proved::put_floats(&entries, &mut bytes);
+        put_floats(&entries, &mut bytes);
         (bytes, DMatrix::from_fn(6, 6, |r, c| entries[6 * r + c]))
     });
     rows.row(
         "determinant",
         &matrices,
-        |(bytes, _)| proved::determinant(bytes),
+        |(bytes, _)| leaves::determinant(bytes),
         |(_, matrix)| matrix.determinant(),
     );
 }

@@ -4,7 +4,6 @@
 
 #![forbid(unsafe_code)]
 
-#[cfg(feature = "arms")]
 mod arms;
 mod digits;
 mod leaves;
@@ -154,7 +153,6 @@ fn main() -> ExitCode {
     leaves::rows(&mut rows, &mut draw);
     #[cfg(feature = "objective")]
     objective::losses(&mut rows, &mut draw);
-    #[cfg(feature = "arms")]
     calls(&mut rows, &mut draw);
     match rows.wish {
         Wish::Markdown => print!("{}", report::markdown(&rows.timed)),
@@ -171,7 +169,6 @@ fn main() -> ExitCode {
 
 /// Every call on arms of each size. Single chains of 2, 4, 8 and 16 joints
 /// show how the cost grows.
-#[cfg(feature = "arms")]
 fn calls(rows: &mut Rows, draw: &mut Draw) {
     let (four, two) = ([4; 4], [7; 2]);
     let sizes = [2, 4, 7, 8, 16].map(|joints| (format!("{joints} joints"), vec![joints]));

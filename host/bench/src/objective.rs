@@ -4,12 +4,12 @@
 
 use crate::arms::{first, Chains};
 use crate::{Draw, Rows};
-use proved::objective::{self, Given, Record};
-use proved::{losses as proved_losses, put_floats};
 use reference::groove::objective::{groove_loss, swamp_groove_loss, swamp_loss};
 use reference::groove::objective_master::ObjectiveMaster;
 use reference::groove::vars::RelaxedIKVars;
 use reference::{losses as published, record, refusals, sheet};
+use relaxed_ik::bytes::{self, put_floats, Given, Record};
+use relaxed_ik::leaves;
 use std::cell::RefCell;
 
 /// Few enough for the slowest row, which takes half a millisecond a call.
@@ -22,34 +22,39 @@ pub fn losses(rows: &mut Rows, draw: &mut Draw) {
     rows.row(
         "groove_loss",
         &distances,
-        |x| proved_losses::groove_loss(*x, 0.0, 0.1, 10.0),
+        |x| leaves::groove_loss(*x, 0.0, 0.1, 10.0),
         |x| groove_loss(*x, 0.0, 2, 0.1, 10.0, 2),
     );
     rows.row(
         "swamp_groove_loss",
         &distances,
-        |x| proved_losses::swamp_groove_loss(*x, 0.0, -0.5, 0.5, 1.0, 1.0, 0.01, 100.0),
+        |x| leaves::swamp_groove_loss(*x, 0.0, -0.5, 0.5, 1.0, 1.0, 0.01, 100.0),
         |x| swamp_groove_loss(*x, 0.0, -0.5, 0.5, 1.0, 1.0, 0.01, 100.0, 20),
     );
     for power in [20, 30] {
         rows.row(
             &format!("swamp_loss, power {power}"),
             &distances,
-            |x| proved_losses::swamp_loss(*x, 0.02, 1.5, 60.0, 0.0001, power),
+            |x| leaves::swamp_loss(*x, 0.02, 1.5, 60.0, 0.0001, power),
             |x| swamp_loss(*x, 0.02, 1.5, 60.0, 0.0001, i32::from(power)),
         );
     }
+    bounded_losses(rows, draw);
+}
+
+/// Under a tolerance, and between limits.
+fn bounded_losses(rows: &mut Rows, draw: &mut Draw) {
     let bounded = draw.inputs(|d| [d.between(-1.0, 1.0), d.between(-1.0, 4.0)]);
     rows.row(
         "loss_position",
         &bounded,
-        |[x, bound]| proved_losses::position(*x, *bound),
+        |[x, bound]| leaves::loss_position(*x, *bound),
         |[x, bound]| published::position(*x, *bound),
     );
     rows.row(
         "loss_rotation",
         &bounded,
-        |[x, bound]| proved_losses::rotation(*x, *bound),
+        |[x, bound]| leaves::loss_rotation(*x, *bound),
         |[x, bound]| published::rotation(*x, *bound),
     );
     let limited = published::limited(-3.0, 3.0);
@@ -57,7 +62,7 @@ pub fn losses(rows: &mut Rows, draw: &mut Draw) {
     rows.row(
         "loss_limits",
         &joints,
-        |x| proved_losses::limits(*x, -3.0, 3.0),
+        |x| leaves::loss_limits(*x, -3.0, 3.0),
         |x| published::limits(*x, &limited),
     );
 }
@@ -127,17 +132,20 @@ impl Lists {
             record_poses: vec![0; 56 * walked],
         }
     }
+}
 
-    /// The value and the last slope, so that the sums show both.
-    fn shown(&self, answer: u32) -> f64 {
-        assert_eq!(answer, refusals::ACCEPTED);
-        first(&self.value) + first(&self.slopes[self.slopes.len() - 8..])
-    }
+/// The value and the last slope, so that the sums show both.
+fn shown_bytes(answer: u32, value: &[u8], slopes: &[u8]) -> f64 {
+    assert_eq!(answer, refusals::ACCEPTED);
+    first(value) + first(&slopes[slopes.len() - 8..])
 }
 
 fn shown((value, slopes): (f64, Vec<f64>)) -> f64 {
     value + slopes[slopes.len() - 1]
 }
+
+/// A call on two blocks: joints, then scratch, value and slopes.
+type TwoBlocks = fn(Given, &[u8], &mut [u8], &mut [u8], &mut [u8]) -> u32;
 
 pub fn rows(rows: &mut Rows, draw: &mut Draw, label: &str, chains: &Chains) {
     let states: Vec<State> = (0..STATES).map(|_| State::new(chains, draw)).collect();
@@ -147,65 +155,53 @@ pub fn rows(rows: &mut Rows, draw: &mut Draw, label: &str, chains: &Chains) {
     rows.row(
         &format!("objective, {label}"),
         &states,
-        |state| {
-            let value = &mut lists.borrow_mut().value;
-            let answer = objective::objective(state.given(chains), &state.joints_bytes, value);
-            assert_eq!(answer, refusals::ACCEPTED);
-            first(value)
-        },
+        |state| value(&mut lists.borrow_mut(), state, chains),
         |state| master.call(&state.joints, &state.vars),
     );
     rows.row(
         &format!("gradient, {label}"),
         &states,
-        |state| {
-            let lists = &mut *lists.borrow_mut();
-            let answer = objective::gradient(
-                state.given(chains),
-                &state.joints_bytes,
-                &mut lists.scratch,
-                &mut lists.value,
-                &mut lists.slopes,
-            );
-            lists.shown(answer)
-        },
+        |state| two_blocks(bytes::gradient, &mut lists.borrow_mut(), state, chains),
         |state| shown(master.gradient(&state.joints, &state.vars)),
     );
+    let coarse = bytes::gradient_finite_diff;
     rows.row(
         &format!("gradient_finite_diff, {label}"),
         &states,
-        |state| {
-            let lists = &mut *lists.borrow_mut();
-            let answer = objective::gradient_finite_diff(
-                state.given(chains),
-                &state.joints_bytes,
-                &mut lists.scratch,
-                &mut lists.value,
-                &mut lists.slopes,
-            );
-            lists.shown(answer)
-        },
+        |state| two_blocks(coarse, &mut lists.borrow_mut(), state, chains),
         |state| shown(master.gradient_finite_diff(&state.joints, &state.vars)),
     );
     // The published gradient keeps no record; the ratio holds that too.
     rows.row(
         &format!("gradient_one_block, {label}"),
         &states,
-        |state| {
-            let lists = &mut *lists.borrow_mut();
-            let answer = objective::gradient_one_block(
-                state.given(chains),
-                &state.joints_bytes,
-                &mut lists.value,
-                &mut lists.slopes,
-                Record {
-                    joints: &mut lists.record_joints,
-                    links: &mut lists.record_links,
-                    poses: &mut lists.record_poses,
-                },
-            );
-            lists.shown(answer)
-        },
+        |state| one_block(&mut lists.borrow_mut(), state, chains),
         |state| shown(master.gradient(&state.joints, &state.vars)),
     );
+}
+
+fn value(lists: &mut Lists, state: &State, chains: &Chains) -> f64 {
+    let value = &mut lists.value;
+    let answer = bytes::objective(state.given(chains), &state.joints_bytes, value);
+    assert_eq!(answer, refusals::ACCEPTED);
+    first(value)
+}
+
+fn two_blocks(call: TwoBlocks, lists: &mut Lists, state: &State, chains: &Chains) -> f64 {
+    let (scratch, given) = (&mut lists.scratch, state.given(chains));
+    let (value, slopes) = (&mut lists.value, &mut lists.slopes);
+    let answer = call(given, &state.joints_bytes, scratch, value, slopes);
+    shown_bytes(answer, value, slopes)
+}
+
+fn one_block(lists: &mut Lists, state: &State, chains: &Chains) -> f64 {
+    let record = Record {
+        joints: &mut lists.record_joints,
+        links: &mut lists.record_links,
+        poses: &mut lists.record_poses,
+    };
+    let (value, slopes) = (&mut lists.value, &mut lists.slopes);
+    let given = state.given(chains);
+    let answer = bytes::gradient_one_block(given, &state.joints_bytes, value, slopes, record);
+    shown_bytes(answer, value, slopes)
 }

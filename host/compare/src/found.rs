@@ -1,7 +1,8 @@
 //! A case on which a call differs, as a sheet that `sonde` reads: the lists in
 //! its lines, and in its comments both answers and what no line can hold.
 
-use crate::arms::{Call, Written};
+use crate::calls::Call;
+use crate::judge::Written;
 use crate::run::with_bits;
 use crate::sheets::List;
 use crate::tally::Shown;
@@ -208,111 +209,5 @@ fn rows(text: &mut Text, name: List, bytes: &[u8]) {
     }
     for row in numbers.chunks(each.max(1)) {
         text.numbers(word, row);
-    }
-}
-
-#[cfg(test)]
-mod tests {
-    use super::*;
-    use crate::arms::{Trial, CALLS};
-    use crate::draw::Draw;
-    use crate::run::Run;
-    use crate::shares::Block;
-    use crate::sheets::Lists;
-    use crate::source::{Source, WRITTEN};
-    use crate::target::Kind;
-    use proved::{put_floats, put_u16s};
-
-    /// What no call answers.
-    fn wrong(_: Call, _: &[&[u8]], _: &mut [&mut [u8]]) -> u32 {
-        99
-    }
-
-    /// A list's bytes out of the text, as `sonde` reads it or from the comments.
-    fn back(text: &str, name: List) -> Vec<u8> {
-        let mark = format!("# {name:?}, ");
-        if let Some(line) = text.lines().find(|line| line.starts_with(&mark)) {
-            let digits = line.rsplit(' ').next().unwrap();
-            let byte = |at: usize| u8::from_str_radix(&digits[at..at + 2], 16).unwrap();
-            // Without bytes the last word is 'line:'.
-            let length = if digits == "line:" { 0 } else { digits.len() };
-            return (0..length).step_by(2).map(byte).collect();
-        }
-        let lists = sonde::text::parse(text.as_bytes()).unwrap().lists();
-        let mut bytes = Vec::new();
-        match name {
-            List::Sizes => put_u16s(&lists.sizes, &mut bytes),
-            List::Codes => put_u16s(&lists.codes, &mut bytes),
-            List::Floats => put_floats(&lists.floats, &mut bytes),
-            List::Limits => put_floats(&lists.limits, &mut bytes),
-            List::Goals => put_floats(&lists.goals, &mut bytes),
-            List::History => put_floats(&lists.history, &mut bytes),
-            List::Joints => put_floats(&lists.joints, &mut bytes),
-        }
-        bytes
-    }
-
-    /// Every call on inputs of every kind, with a wrong answer: the text is read
-    /// by `sonde`'s reader, and no bit of the input is lost.
-    #[test]
-    fn a_difference_is_a_sheet_with_the_same_bits() {
-        let mut in_comments = 0;
-        for call in CALLS {
-            for (kind, _) in WRITTEN {
-                let (mut draw, mut source) = (Draw::new(3), Source::new(call, *kind));
-                for _ in 0..40 {
-                    let (lists, rooms) = source.next(&mut draw);
-                    let text = difference(call, *kind, lists, &rooms);
-                    sonde::text::parse(text.as_bytes()).unwrap();
-                    for name in call.read() {
-                        assert_eq!(back(&text, *name), lists.get(*name), "{text}");
-                    }
-                    in_comments += usize::from(text.contains("in no line"));
-                }
-            }
-        }
-        assert!(in_comments > 500, "{in_comments}");
-    }
-
-    /// The text of a case on which the wrong function is asked.
-    fn difference(call: Call, kind: Kind, lists: &Lists, rooms: &[usize]) -> String {
-        let block = Block {
-            target: 0,
-            kind,
-            number: 0,
-            draws: 0,
-        };
-        let mut run = Run::new(1, &block, 1);
-        Trial::new(call, wrong).check(&mut run, lists, rooms);
-        let kept = run.finish().kept;
-        match &kept[0].shown {
-            Shown::Sheet(text) => text.clone(),
-            Shown::Lines(text) => panic!("no sheet: {text}"),
-        }
-    }
-
-    /// Both answers are told, and the reference's filed.
-    #[test]
-    fn answers_are_told_and_filed() {
-        for (call, figure) in [
-            (Call::Load, None),
-            (Call::Pose, Some("c0.x")),
-            (Call::Manipulability, Some("manipulability")),
-            (Call::Objective, Some("objective")),
-            (Call::Gradient, Some("slope.1")),
-            (Call::GradientOneBlock, Some("slope.1")),
-        ] {
-            let (mut draw, mut source) = (Draw::new(4), Source::new(call, Kind::Valid));
-            let (lists, rooms) = source.next(&mut draw);
-            let text = difference(call, Kind::Valid, lists, &rooms);
-            assert!(text.starts_with("# answered: proved 99, reference 0\n"));
-            assert_eq!(text.contains("# output 0, "), figure.is_some());
-            let filed = sonde::text::parse(text.as_bytes()).unwrap().filed;
-            let names: Vec<&str> = filed.iter().map(|filed| &filed.name[..]).collect();
-            match figure {
-                Some(figure) => assert!(names.contains(&figure), "{names:?}"),
-                None => assert!(names.is_empty(), "{names:?}"),
-            }
-        }
     }
 }

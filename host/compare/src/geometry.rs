@@ -1,12 +1,13 @@
 //! The leaves on vectors, quaternions and segments.
 
+use crate::draw::kind::{Kind, Kinds};
 use crate::draw::{grid, Draw, CORNERS, SIGNS};
 use crate::run::Run;
-use crate::target::{Kind, Kinds, Target};
+use crate::target::Target;
 use nalgebra::{Point3, Quaternion, UnitQuaternion, Vector3};
 use parry3d_f64::{query, shape::Segment};
-use proved::Axis;
 use reference::spacetime::arm::{get_quat_x, get_quat_y, get_quat_z};
+use relaxed_ik::leaves::{self, Axis};
 
 const QUATERNIONS: Kinds = &[
     (Kind::Range, 9),
@@ -99,7 +100,7 @@ fn quat_product(run: &mut Run) {
         },
         |all| {
             let (a, b) = split::<8, 4, 4>(all);
-            proved::quat_product(a, b)
+            leaves::quat_product(a, b)
         },
         |all| {
             let (a, b) = split::<8, 4, 4>(all);
@@ -112,7 +113,7 @@ fn quat_inverse(run: &mut Run) {
     run.function(
         grid::<4>(&CORNERS),
         Draw::quaternion,
-        proved::quat_inverse,
+        leaves::quat_inverse,
         |q| four(unit(q).inverse()),
     );
 }
@@ -126,7 +127,7 @@ fn rotate(run: &mut Run) {
         },
         |all| {
             let (q, v) = split::<7, 4, 3>(all);
-            proved::rotate(q, v)
+            leaves::rotate(q, v)
         },
         |all| {
             let (q, v) = split::<7, 4, 3>(all);
@@ -144,7 +145,7 @@ fn cross(run: &mut Run) {
         },
         |all| {
             let (a, b) = split::<6, 3, 3>(all);
-            proved::cross(a, b)
+            leaves::cross(a, b)
         },
         |all| {
             let (a, b) = split::<6, 3, 3>(all);
@@ -157,7 +158,7 @@ fn norm(run: &mut Run) {
     run.function(
         grid::<3>(&CORNERS),
         Draw::vector,
-        |v| [proved::norm(v)],
+        |v| [leaves::norm(v)],
         |v| [vector(v).norm()],
     );
 }
@@ -179,7 +180,7 @@ fn get_quat(run: &mut Run) {
         },
         |[axis, v]| {
             let axis = [Axis::X, Axis::Y, Axis::Z][axis as usize];
-            proved::get_quat(axis, v)
+            leaves::get_quat(axis, v)
         },
         |[axis, v]| four([get_quat_x, get_quat_y, get_quat_z][axis as usize](v)),
     );
@@ -189,7 +190,7 @@ fn scaled_axis(run: &mut Run) {
     run.function(
         grid::<4>(&CORNERS),
         Draw::quaternion,
-        proved::scaled_axis,
+        leaves::scaled_axis,
         |q| three(unit(q).scaled_axis()),
     );
 }
@@ -206,7 +207,7 @@ fn segment_distance(run: &mut Run) {
     run.function(
         edges.map(flat),
         |draw, kind| flat(segments(draw, kind)),
-        |all| [proved::segment_distance(points_of(all))],
+        |all| [leaves::segment_distance(points_of(all))],
         |all| {
             let [a, b, c, d] = points_of(all).map(|p| Point3::from(vector(p)));
             let place = nalgebra::one();

@@ -4,11 +4,11 @@
 
 #![forbid(unsafe_code)]
 
-#[cfg(feature = "arms")]
 pub mod arms;
-#[cfg(feature = "arms")]
+pub mod calls;
 mod found;
 pub mod geometry;
+pub mod judge;
 #[cfg(feature = "objective")]
 pub mod losses;
 pub mod matrices;
@@ -19,15 +19,14 @@ pub mod report;
 pub mod run;
 pub mod session;
 mod shares;
-#[cfg(feature = "arms")]
 pub mod sheets;
 #[cfg(feature = "objective")]
 pub mod slopes;
-#[cfg(feature = "arms")]
 pub mod source;
 mod state;
 mod tally;
 pub mod target;
+mod trial;
 
 pub use draw;
 use target::Target;
@@ -37,7 +36,6 @@ pub fn targets() -> Vec<Target> {
     let mut all = numbers::targets();
     all.extend(geometry::targets());
     all.extend(matrices::targets());
-    #[cfg(feature = "arms")]
     all.extend(arms::targets());
     #[cfg(feature = "objective")]
     {

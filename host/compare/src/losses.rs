@@ -1,11 +1,12 @@
 //! The losses.
 
+use crate::draw::kind::{Kind, Kinds};
 use crate::draw::{grid, Draw, CORNERS, SIGNS};
 use crate::run::Run;
-use crate::target::{Kind, Kinds, Target};
-use proved::losses;
+use crate::target::Target;
 use reference::groove::objective::{groove_loss, swamp_groove_loss, swamp_loss};
 use reference::losses as published;
+use relaxed_ik::leaves;
 
 const DISTANCES: Kinds = &[
     (Kind::Range, 5),
@@ -41,13 +42,13 @@ pub fn targets() -> Vec<Target> {
             "loss_position",
             "a distance under its tolerance",
             BOUNDED,
-            |run| under_tolerance(run, losses::position, published::position),
+            |run| under_tolerance(run, leaves::loss_position, published::position),
         ),
         leaf(
             "loss_rotation",
             "an angle under its tolerance",
             BOUNDED,
-            |run| under_tolerance(run, losses::rotation, published::rotation),
+            |run| under_tolerance(run, leaves::loss_rotation, published::rotation),
         ),
         leaf("loss_limits", "a joint between its limits", BOUNDED, limits),
     ]
@@ -97,7 +98,7 @@ fn groove(run: &mut Run) {
             let x = distance(draw, kind);
             [x, centre, width, factor].map(|own| or_any(draw, kind, own))
         },
-        |[x, t, c, f]| [losses::groove_loss(x, t, c, f)],
+        |[x, t, c, f]| [leaves::groove_loss(x, t, c, f)],
         |[x, t, c, f]| [groove_loss(x, t, 2, c, f, 2)],
     );
 }
@@ -159,7 +160,7 @@ fn swamp_groove(run: &mut Run) {
             };
             [x, 0.0, l, u, width, 1.0, 0.01, 100.0].map(|own| or_any(draw, kind, own))
         },
-        |[x, g, l, u, c, f1, f2, f3]| [losses::swamp_groove_loss(x, g, l, u, c, f1, f2, f3)],
+        |[x, g, l, u, c, f1, f2, f3]| [leaves::swamp_groove_loss(x, g, l, u, c, f1, f2, f3)],
         |[x, g, l, u, c, f1, f2, f3]| [swamp_groove_loss(x, g, l, u, c, f1, f2, f3, 20)],
     );
 }
@@ -182,7 +183,7 @@ fn swamp(run: &mut Run) {
             };
             [x, l, u, f1, f2, power]
         },
-        |[x, l, u, f1, f2, power]| [losses::swamp_loss(x, l, u, f1, f2, power as u16)],
+        |[x, l, u, f1, f2, power]| [leaves::swamp_loss(x, l, u, f1, f2, power as u16)],
         |[x, l, u, f1, f2, power]| {
             let power = if power == 30.0 { 30 } else { 20 };
             [swamp_loss(x, l, u, f1, f2, power)]
@@ -225,7 +226,7 @@ fn limits(run: &mut Run) {
             (Kind::Any, 0) => draw.anys(),
             _ => bounded(draw, kind),
         },
-        |[x, l, u]| [losses::limits(x, l, u)],
+        |[x, l, u]| [leaves::loss_limits(x, l, u)],
         |[x, l, u]| [published::limits(x, &published::limited(l, u))],
     );
 }

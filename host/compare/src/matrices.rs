@@ -1,9 +1,12 @@
 //! The leaves on matrices, which cross as bytes.
 
+use crate::draw::kind::{Kind, Kinds};
 use crate::draw::{Draw, NANS, SIGNS};
 use crate::run::{matches, show, Run};
-use crate::target::{Kind, Kinds, Target};
+use crate::target::Target;
 use nalgebra::DMatrix;
+use relaxed_ik::bytes::put_floats;
+use relaxed_ik::leaves;
 
 const SIDE: usize = 6;
 /// An arm has at most this many joints, so J at most this many columns.
@@ -57,8 +60,8 @@ fn determinant(run: &mut Run) {
 }
 
 fn determinant_of(run: &mut Run, bytes: &mut Vec<u8>, entries: &[f64]) {
-    proved::put_floats(entries, bytes);
-    let proved = proved::determinant(bytes);
+    put_floats(entries, bytes);
+    let proved = leaves::determinant(bytes);
     // Another length is no matrix, and answered with a NaN.
     let reference = if entries.len() == SIDE * SIDE {
         DMatrix::from_fn(SIDE, SIDE, |r, c| entries[r * SIDE + c]).determinant()
@@ -239,8 +242,8 @@ fn gram(run: &mut Run) {
 /// Row and column are shown before the columns.
 fn gram_entry(run: &mut Run, bytes: &mut Vec<u8>, columns: &[[f64; SIDE]], entry: [usize; 2]) {
     let [row, column] = entry;
-    proved::put_floats(columns.as_flattened(), bytes);
-    let proved = proved::gram(bytes, row as u32, column as u32);
+    put_floats(columns.as_flattened(), bytes);
+    let proved = leaves::gram(bytes, row as u32, column as u32);
     let j = DMatrix::from_fn(SIDE, columns.len(), |r, c| columns[c][r]);
     let reference = (j.clone() * j.transpose())[(row, column)];
     run.case(matches(proved, reference), || {

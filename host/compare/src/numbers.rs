@@ -1,8 +1,10 @@
 //! The leaves that take one or two numbers.
 
+use crate::draw::kind::{Kind, Kinds};
 use crate::draw::{grid, Draw};
 use crate::run::Run;
-use crate::target::{Kind, Kinds, Target, CONSTANT};
+use crate::target::{Target, CONSTANT};
+use relaxed_ik::leaves;
 use standins::{atan2, b, cos, cut, exp, powi, sin};
 
 /// About half of the draws are any floats.
@@ -35,35 +37,35 @@ pub fn targets() -> Vec<Target> {
             "sqrt",
             "square root, against the machine's own",
             ROOT,
-            |run| one(run, radicand, proved::sqrt, f64::sqrt),
+            |run| one(run, radicand, leaves::sqrt, f64::sqrt),
         ),
         leaf("sin", "sine", ANGLE, |run| {
-            one(run, half_angle, proved::sin, sin)
+            one(run, half_angle, leaves::sin, sin)
         }),
         leaf("cos", "cosine", ANGLE, |run| {
-            one(run, half_angle, proved::cos, cos)
+            one(run, half_angle, leaves::cos, cos)
         }),
         leaf("exp", "exponential", EXPONENT, |run| {
-            one(run, exponent, proved::exp, exp)
+            one(run, exponent, leaves::exp, exp)
         }),
         leaf("atan2", "angle of n and w", SIDES, angle),
         leaf("power20", "20th power by squaring", SCALED, |run| {
-            one(run, scaled, proved::power20, |a| powi(a, 20))
+            one(run, scaled, leaves::power20, |a| powi(a, 20))
         }),
         leaf("power30", "30th power by squaring", SCALED, |run| {
-            one(run, scaled, proved::power30, |a| powi(a, 30))
+            one(run, scaled, leaves::power30, |a| powi(a, 30))
         }),
         constant("b20", "the constant b for 20", |run| {
-            run.floats(&[], &[proved::b20()], &[b(20)])
+            run.floats(&[], &[leaves::b20()], &[b(20)])
         }),
         constant("b30", "the constant b for 30", |run| {
-            run.floats(&[], &[proved::b30()], &[b(30)])
+            run.floats(&[], &[leaves::b30()], &[b(30)])
         }),
         leaf("cut", "cut to 0..1", SCALED, |run| {
-            one(run, scaled, proved::cut, cut)
+            one(run, scaled, leaves::cut, cut)
         }),
         leaf("abs", "absolute value", SCALED, |run| {
-            one(run, scaled, proved::abs, f64::abs)
+            one(run, scaled, leaves::abs, f64::abs)
         }),
     ]
 }
@@ -195,7 +197,7 @@ fn angle(run: &mut Run) {
     run.function(
         grid(&edges),
         sides,
-        |[n, w]| [proved::atan2(n, w)],
+        |[n, w]| [leaves::atan2(n, w)],
         |[n, w]| [atan2(n, w)],
     );
 }

@@ -1,7 +1,8 @@
 //! The command line.
 
+use crate::draw::kind::Kind;
 use crate::shares::Amount;
-use crate::target::{Kind, Target};
+use crate::target::Target;
 use std::path::PathBuf;
 
 pub const USAGE: &str = "\

@@ -1,7 +1,7 @@
 //! The progress line, on standard error: rewritten in place on a terminal, else
 //! a line every ten seconds.
 
-use crate::shares::Block;
+use crate::run::Block;
 use crate::tally::Tally;
 use crate::target::Target;
 use std::io::{IsTerminal, Write as _};
@@ -18,7 +18,8 @@ struct Amounts {
 impl Amounts {
     fn add(&mut self, block: &Block, targets: &[Target]) {
         self.draws += block.draws;
-        self.work += block.work(targets);
+        // Edges are not foreseen.
+        self.work += block.draws as f64 / targets[block.target].pace.block as f64;
     }
 }
 
@@ -132,7 +133,8 @@ pub fn clock(time: Duration) -> String {
 #[cfg(test)]
 mod tests {
     use super::*;
-    use crate::target::{Kind, Pace};
+    use crate::draw::kind::Kind;
+    use crate::target::Pace;
 
     #[test]
     fn a_time_is_in_hours_minutes_and_seconds() {

@@ -1,12 +1,13 @@
 //! What is printed and written: the list of names, a line for each, the
 //! differences, the table of counts.
 
+use crate::draw::kind::KINDS;
 use crate::options::Options;
 use crate::progress::clock;
 use crate::shares::Amount;
 use crate::state::{Settings, Tallies};
 use crate::tally::{Difference, Shown, Tally};
-use crate::target::{Target, KINDS};
+use crate::target::Target;
 use std::fmt::Write as _;
 use std::path::Path;
 use std::{fs, thread};
@@ -143,7 +144,7 @@ pub fn verdict(tallies: &Tallies) -> (usize, usize) {
 #[cfg(test)]
 mod tests {
     use super::*;
-    use crate::target::Kind;
+    use crate::draw::kind::Kind;
     use crate::targets;
 
     fn tallies() -> Tallies {

@@ -1,11 +1,21 @@
 //! The run of one block: counts its cases and keeps the differences.
 
+use crate::draw::kind::Kind;
 use crate::draw::Draw;
-use crate::shares::Block;
 use crate::tally::{Difference, Shown, Tally};
-use crate::target::{Kind, Target};
 use std::fmt::Write as _;
-use std::time::Instant;
+
+/// A part of the run. Its inputs depend on the seed, the name, the kind and its
+/// own number, and on nothing that was run before it.
+#[derive(Clone, Copy, Debug, PartialEq)]
+pub struct Block {
+    /// Among the names that are run.
+    pub target: usize,
+    pub kind: Kind,
+    /// Among the blocks of that name and kind.
+    pub number: u64,
+    pub draws: u64,
+}
 
 pub struct Run {
     pub draw: Draw,
@@ -16,34 +26,6 @@ pub struct Run {
     /// Differences still to be kept.
     room: usize,
     tally: Tally,
-}
-
-/// Feeds both sides a block of the name's inputs, and keeps so many differences.
-pub fn run_block(target: &Target, block: &Block, seed: u64, room: usize) -> Tally {
-    let started = Instant::now();
-    let mut run = Run::new(block_seed(seed, target.name, block), block, room);
-    (target.run)(&mut run);
-    Tally {
-        blocks: 1,
-        time: started.elapsed(),
-        ..run.finish()
-    }
-}
-
-/// The seed of a block. Each has draws of its own, so that a run that is resumed
-/// or that takes a name alone meets the same cases as the whole run.
-fn block_seed(seed: u64, name: &str, block: &Block) -> u64 {
-    let words = format!("{seed} {name} {} {}", block.kind.name(), block.number);
-    let hash = fnv(words.as_bytes());
-    // Seeds that differ in few bits would begin alike.
-    Draw::new(hash).word()
-}
-
-/// The 64-bit FNV-1a sum.
-pub fn fnv(bytes: &[u8]) -> u64 {
-    bytes.iter().fold(0xcbf2_9ce4_8422_2325, |hash, &byte| {
-        (hash ^ u64::from(byte)).wrapping_mul(0x0000_0100_0000_01b3)
-    })
 }
 
 impl Run {
@@ -101,7 +83,6 @@ impl Run {
     }
 
     /// Counts the number that a call is to answer: 0, or a refusal's.
-    #[cfg(feature = "arms")]
     pub fn answer(&mut self, number: u32) {
         *self.tally.answers.entry(number).or_default() += 1;
     }
@@ -164,16 +145,6 @@ pub fn with_bits(v: f64) -> String {
 #[cfg(test)]
 mod tests {
     use super::*;
-    use crate::target::Target;
-
-    fn block(kind: Kind, number: u64, draws: u64) -> Block {
-        Block {
-            target: 0,
-            kind,
-            number,
-            draws,
-        }
-    }
 
     #[test]
     fn a_match_is_bit_for_bit() {
@@ -182,54 +153,5 @@ mod tests {
         assert!(!matches(0.0, -0.0));
         assert!(!matches(f64::NAN, 0.0));
         assert!(!matches(1.0, 1.0f64.next_up()));
-    }
-
-    /// Right at 2, wrong elsewhere.
-    fn wrong(run: &mut Run) {
-        run.function(
-            [[1.0], [2.0]].into_iter(),
-            |draw, _| [draw.between(0.0, 1.0)],
-            |[x]| [x],
-            |[x]| [if x == 2.0 { x } else { -x }],
-        );
-    }
-
-    fn target() -> Target {
-        Target::leaf("test", "a test", &[(Kind::Range, 1)], wrong)
-    }
-
-    #[test]
-    fn differences_are_counted_and_the_first_are_kept() {
-        let edges = run_block(&target(), &block(Kind::Edges, 0, 0), 1, 3);
-        assert_eq!((edges.cases, edges.differences), (2, 1));
-        let text = edges.kept[0].shown.text();
-        assert!(
-            text.contains("input 0      0x3ff0000000000000 1e0"),
-            "{text}"
-        );
-        assert!(
-            text.contains("reference 0  0xbff0000000000000 -1e0"),
-            "{text}"
-        );
-        let drawn = run_block(&target(), &block(Kind::Range, 4, 20), 1, 3);
-        assert_eq!((drawn.cases, drawn.differences), (20, 20));
-        let places: Vec<(u64, u64)> = drawn.kept.iter().map(|one| (one.block, one.case)).collect();
-        assert_eq!(places, [(4, 1), (4, 2), (4, 3)]);
-    }
-
-    /// The same block has the same cases, another one has others.
-    #[test]
-    fn a_block_has_draws_of_its_own() {
-        let first = |name: &'static str, kind: Kind, number: u64, seed: u64| {
-            let target = Target::leaf(name, "a test", &[(Kind::Range, 1)], wrong);
-            let tally = run_block(&target, &block(kind, number, 1), seed, 1);
-            tally.kept[0].shown.text().to_string()
-        };
-        let one = first("a", Kind::Range, 0, 1);
-        assert_eq!(one, first("a", Kind::Range, 0, 1));
-        assert_ne!(one, first("b", Kind::Range, 0, 1));
-        assert_ne!(one, first("a", Kind::Any, 0, 1));
-        assert_ne!(one, first("a", Kind::Range, 1, 1));
-        assert_ne!(one, first("a", Kind::Range, 0, 2));
     }
 }

@@ -1,11 +1,12 @@
 //! A run from its first block, or from the state that it was left in, to its
 //! last.
 
+use crate::draw::fnv;
 use crate::options::Options;
 use crate::progress::Progress;
 use crate::report;
-use crate::run::{fnv, run_block};
-use crate::shares::{plan, Block};
+use crate::run::Block;
+use crate::shares::plan;
 use crate::state::{self, Settings, Tallies};
 use crate::tally::{Difference, Tally};
 use crate::target::Target;
@@ -102,7 +103,7 @@ impl Session {
         let block = self.plan[self.done];
         let target = &self.targets[block.target];
         let room = self.tallies[block.target].1.room();
-        let found = run_block(target, &block, self.options.seed, room);
+        let found = target.run_block(&block, self.options.seed, room);
         if !found.kept.is_empty() {
             progress.clear();
             self.tell(target.name, &found.kept)?;
@@ -131,9 +132,10 @@ impl Session {
 #[cfg(test)]
 mod tests {
     use super::*;
+    use crate::draw::kind::Kind;
     use crate::run::Run;
     use crate::shares::Amount;
-    use crate::target::{Kind, Pace};
+    use crate::target::Pace;
     use crate::targets;
     use std::path::{Path, PathBuf};
     use std::time::Duration;

@@ -1,7 +1,9 @@
 //! How many draws each name and each kind of input gets, and the blocks that
 //! they are run in.
 
-use crate::target::{Kind, Target};
+use crate::draw::kind::Kind;
+use crate::run::Block;
+use crate::target::Target;
 
 /// What the command line asks for.
 #[derive(Clone, Copy, Debug, PartialEq)]
@@ -10,25 +12,6 @@ pub enum Amount {
     Cases(u64),
     /// Draws for all names together.
     Total(u64),
-}
-
-/// A part of the run. Its inputs depend on the seed, the name, the kind and its
-/// own number, and on nothing that was run before it.
-#[derive(Clone, Copy, Debug, PartialEq)]
-pub struct Block {
-    /// Among the names that are run.
-    pub target: usize,
-    pub kind: Kind,
-    /// Among the blocks of that name and kind.
-    pub number: u64,
-    pub draws: u64,
-}
-
-impl Block {
-    /// How long it takes, in full blocks. Edges are not foreseen.
-    pub fn work(&self, targets: &[Target]) -> f64 {
-        self.draws as f64 / targets[self.target].pace.block as f64
-    }
 }
 
 /// Parts of a number by weight, which sum to it; nothing if all weights are 0.
@@ -137,7 +120,7 @@ mod tests {
             share: 1,
             block: 10,
         };
-        const TWO: crate::target::Kinds = &[(Kind::Range, 1), (Kind::Any, 3)];
+        const TWO: crate::draw::kind::Kinds = &[(Kind::Range, 1), (Kind::Any, 3)];
         Target::new("slow", "a test", pace, TWO, |_| {})
     }
 

@@ -1,11 +1,11 @@
 //! Lists for the calls on arms: sheets that document 01 takes, with joints,
 //! histories and goals, and the ways to spoil them.
 
+use crate::draw::kind::Kind;
 use crate::draw::Draw;
-use crate::target::Kind;
-use proved::{put_floats, put_u16s};
 use reference::refusals::{self, f64s, u16s};
 use reference::sheet;
+use relaxed_ik::bytes::{put_floats, put_u16s};
 
 /// The lists that are read, in the order of the byte calls.
 #[derive(Clone, Copy, Debug, PartialEq)]
@@ -229,55 +229,59 @@ impl Lists {
                 let unit = if matches!(list, Sizes | Codes) { 2 } else { 8 };
                 change.apply(&mut self.bytes[list as usize], unit, draw);
             }
-            Damage::Code(code) => {
-                let at = draw.below(self.bytes[Codes as usize].len() / 2 + 1);
-                self.put_u16(Codes, at, code);
-            }
-            Damage::Fixed => {
-                // Takes joints away and leaves the limits.
-                let at = draw.below(self.bytes[Codes as usize].len() / 2 + 1);
-                self.put_u16(Codes, at, 0);
-                self.put_u16(Codes, at + 1, 0);
-            }
+            Damage::Code(code) => self.spoil_codes(&[code], draw),
+            // Takes joints away and leaves the limits.
+            Damage::Fixed => self.spoil_codes(&[0, 0], draw),
             Damage::Chains(count) => self.put_u16(Sizes, 0, count),
             Damage::Links(count) => {
                 let at = 1 + draw.below(self.chains.max(1));
                 self.put_u16(Sizes, at, count);
             }
             Damage::Displacement(value) => {
-                let at = self.place(Floats, 7, draw) + draw.below(3);
-                self.put(Floats, at, &[value]);
+                self.spoil_row(Floats, 7, draw, |draw| (draw.below(3), vec![value]))
             }
             Damage::Offset(edge) => {
-                let at = self.place(Floats, 7, draw) + 3;
-                self.put(Floats, at, &turn(draw, edge));
+                self.spoil_row(Floats, 7, draw, |draw| (3, turn(draw, edge).to_vec()))
             }
             Damage::OffsetPart(value) => {
-                let at = self.place(Floats, 7, draw) + 3 + draw.below(4);
-                self.put(Floats, at, &[value]);
+                self.spoil_row(Floats, 7, draw, |draw| (3 + draw.below(4), vec![value]))
             }
             Damage::Pair(lower, upper) => {
-                let at = self.place(Limits, 2, draw);
-                self.put(Limits, at, &[lower, upper]);
+                self.spoil_row(Limits, 2, draw, |_| (0, vec![lower, upper]))
             }
             Damage::Narrow(edge) => {
-                let at = self.place(Limits, 2, draw);
-                self.put(Limits, at, &narrow(draw, edge));
+                self.spoil_row(Limits, 2, draw, |draw| (0, narrow(draw, edge).to_vec()))
             }
-            Damage::Value(list, value) => {
-                let at = self.place(list, 1, draw);
-                self.put(list, at, &[value]);
-            }
+            Damage::Value(list, value) => self.spoil_row(list, 1, draw, |_| (0, vec![value])),
             Damage::GoalPart(value) => {
                 let part = draw.pick(&[0, 1, 2, 7, 8, 9, 10, 11, 12]);
-                let at = self.place(Goals, 13, draw) + part;
-                self.put(Goals, at, &[value]);
+                self.spoil_row(Goals, 13, draw, |_| (part, vec![value]));
             }
             Damage::GoalTurn(edge) => {
-                let at = self.place(Goals, 13, draw) + 3;
-                self.put(Goals, at, &turn(draw, edge));
+                self.spoil_row(Goals, 13, draw, |draw| (3, turn(draw, edge).to_vec()))
             }
         }
+    }
+
+    /// Puts these in the place of codes that are drawn.
+    fn spoil_codes(&mut self, codes: &[u16], draw: &mut Draw) {
+        let first = draw.below(self.bytes[Codes as usize].len() / 2 + 1);
+        for (at, &code) in codes.iter().enumerate() {
+            self.put_u16(Codes, first + at, code);
+        }
+    }
+
+    /// Draws a row of so many floats, then where in it to put which.
+    fn spoil_row(
+        &mut self,
+        list: List,
+        width: usize,
+        draw: &mut Draw,
+        wrong: impl FnOnce(&mut Draw) -> (usize, Vec<f64>),
+    ) {
+        let at = self.place(list, width, draw);
+        let (part, floats) = wrong(draw);
+        self.put(list, at + part, &floats);
     }
 }
 

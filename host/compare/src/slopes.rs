@@ -1,6 +1,7 @@
 //! The objective and its slopes against the reference, and against each other.
 
-use crate::arms::{all, exact, Call};
+use crate::arms::all;
+use crate::calls::{exact, Call};
 use crate::found::{differing, sheet};
 use crate::run::{matches, Run};
 use crate::sheets::{List, Lists, Shape};

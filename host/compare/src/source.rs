@@ -1,9 +1,9 @@
 //! Where drawn cases of the byte calls come from, kind by kind.
 
-use crate::arms::{fitted, Call};
+use crate::calls::{fitted, Call};
+use crate::draw::kind::{Kind, Kinds};
 use crate::draw::Draw;
 use crate::sheets::{damages, refused_shape, shape, Damage, Fit, Lists};
-use crate::target::{Kind, Kinds};
 
 /// More than half of the draws are taken.
 pub const WRITTEN: Kinds = &[
@@ -119,7 +119,7 @@ impl Source {
 #[cfg(test)]
 mod tests {
     use super::*;
-    use crate::arms::{Judge, Written, CALLS};
+    use crate::judge::{Judge, Written};
     use crate::shares::parts;
     use crate::sheets::List;
     use std::collections::BTreeMap;
@@ -154,7 +154,7 @@ mod tests {
     #[test]
     fn kinds_are_taken_or_refused() {
         let (mut draw, mut judge) = (Draw::new(6), Judge::default());
-        for call in CALLS {
+        for call in Call::ALL {
             for (kind, _) in kinds(call) {
                 let taken = match kind {
                     Kind::Valid | Kind::Signs | Kind::Border => true,
@@ -175,7 +175,7 @@ mod tests {
     /// All that a call can answer is drawn, and none of it rarely.
     #[test]
     fn every_number_is_drawn() {
-        for call in CALLS {
+        for call in Call::ALL {
             let mut possible = vec![1, 2, 3, 4, 5, 6];
             possible.extend(call.own().contains(&List::Goals).then_some(8));
             if call.own().contains(&List::Joints) {

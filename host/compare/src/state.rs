@@ -1,8 +1,8 @@
 //! The state of a run in a file that it can be resumed from: its settings, and
 //! what was counted and found for each name.
 
+use crate::draw::kind::Kind;
 use crate::tally::{Difference, Shown, Tally};
-use crate::target::Kind;
 use std::fmt::Write as _;
 use std::io::Write as _;
 use std::path::Path;

@@ -1,6 +1,6 @@
 //! What was counted and found for a name.
 
-use crate::target::Kind;
+use crate::draw::kind::Kind;
 use std::collections::BTreeMap;
 use std::time::Duration;
 

@@ -1,11 +1,10 @@
 //! What is compared, by name, and the kinds of input.
 
-use crate::run::Run;
-
-pub use draw::kind::{Kind, KINDS};
-
-/// Kinds of draws, with the weight that each has among them.
-pub type Kinds = &'static [(Kind, u64)];
+use crate::draw::kind::{Kind, Kinds};
+use crate::draw::{fnv, Draw};
+use crate::run::{Block, Run};
+use crate::tally::Tally;
+use std::time::Instant;
 
 /// How many cases a name gets. A slow name gets fewer.
 #[derive(Clone, Copy, Debug)]
@@ -29,7 +28,6 @@ const fn pace(divisor: u64, share: u64, block: u64) -> Pace {
 /// Nothing to draw.
 pub const CONSTANT: Pace = pace(1, 0, 1);
 pub const LEAF: Pace = pace(1, 10, 2_000_000);
-#[cfg(feature = "arms")]
 pub const ARMS: Pace = pace(1, 90, 400_000);
 #[cfg(feature = "objective")]
 pub const OBJECTIVE: Pace = pace(20, 80, 100_000);
@@ -80,21 +78,33 @@ impl Target {
         let names: Vec<&str> = std::iter::once(Kind::Edges.name()).chain(drawn).collect();
         names.join(", ")
     }
+
+    /// Feeds both sides a block of its inputs, and keeps so many differences.
+    pub fn run_block(&self, block: &Block, seed: u64, room: usize) -> Tally {
+        let started = Instant::now();
+        let mut run = Run::new(block_seed(seed, self.name, block), block, room);
+        (self.run)(&mut run);
+        Tally {
+            blocks: 1,
+            time: started.elapsed(),
+            ..run.finish()
+        }
+    }
+}
+
+/// The seed of a block. Each has draws of its own, so that a run that is resumed
+/// or that takes a name alone meets the same cases as the whole run.
+fn block_seed(seed: u64, name: &str, block: &Block) -> u64 {
+    let words = format!("{seed} {name} {} {}", block.kind.name(), block.number);
+    let hash = fnv(words.as_bytes());
+    // Seeds that differ in few bits would begin alike.
+    Draw::new(hash).word()
 }
 
 #[cfg(test)]
 mod tests {
     use super::*;
     use crate::targets;
-
-    #[test]
-    fn kinds_are_found_by_their_names() {
-        for (at, (kind, name, _)) in KINDS.iter().enumerate() {
-            assert_eq!(*kind as usize, at);
-            assert_eq!((kind.name(), Kind::named(name)), (*name, Some(*kind)));
-        }
-        assert_eq!(Kind::named("nothing"), None);
-    }
 
     #[test]
     fn names_differ_and_kinds_are_listed_once() {
@@ -118,5 +128,63 @@ mod tests {
     fn shares_sum_to_a_thousand() {
         let shares = targets().into_iter().map(|target| target.pace.share);
         assert_eq!(shares.sum::<u64>(), 1000);
+    }
+
+    fn block(kind: Kind, number: u64, draws: u64) -> Block {
+        Block {
+            target: 0,
+            kind,
+            number,
+            draws,
+        }
+    }
+
+    /// Right at 2, wrong elsewhere.
+    fn wrong(run: &mut Run) {
+        run.function(
+            [[1.0], [2.0]].into_iter(),
+            |draw, _| [draw.between(0.0, 1.0)],
+            |[x]| [x],
+            |[x]| [if x == 2.0 { x } else { -x }],
+        );
+    }
+
+    fn target() -> Target {
+        Target::leaf("test", "a test", &[(Kind::Range, 1)], wrong)
+    }
+
+    #[test]
+    fn differences_are_counted_and_the_first_are_kept() {
+        let edges = target().run_block(&block(Kind::Edges, 0, 0), 1, 3);
+        assert_eq!((edges.cases, edges.differences), (2, 1));
+        let text = edges.kept[0].shown.text();
+        assert!(
+            text.contains("input 0      0x3ff0000000000000 1e0"),
+            "{text}"
+        );
+        assert!(
+            text.contains("reference 0  0xbff0000000000000 -1e0"),
+            "{text}"
+        );
+        let drawn = target().run_block(&block(Kind::Range, 4, 20), 1, 3);
+        assert_eq!((drawn.cases, drawn.differences), (20, 20));
+        let places: Vec<(u64, u64)> = drawn.kept.iter().map(|one| (one.block, one.case)).collect();
+        assert_eq!(places, [(4, 1), (4, 2), (4, 3)]);
+    }
+
+    /// The same block has the same cases, another one has others.
+    #[test]
+    fn a_block_has_draws_of_its_own() {
+        let first = |name: &'static str, kind: Kind, number: u64, seed: u64| {
+            let target = Target::leaf(name, "a test", &[(Kind::Range, 1)], wrong);
+            let tally = target.run_block(&block(kind, number, 1), seed, 1);
+            tally.kept[0].shown.text().to_string()
+        };
+        let one = first("a", Kind::Range, 0, 1);
+        assert_eq!(one, first("a", Kind::Range, 0, 1));
+        assert_ne!(one, first("b", Kind::Range, 0, 1));
+        assert_ne!(one, first("a", Kind::Any, 0, 1));
+        assert_ne!(one, first("a", Kind::Range, 1, 1));
+        assert_ne!(one, first("a", Kind::Range, 0, 2));
     }
 }

@@ -23,6 +23,9 @@ pub enum Kind {
     Several,
 }
 
+/// Kinds of draws, with the weight that each has among them.
+pub type Kinds = &'static [(Kind, u64)];
+
 /// Every kind with its name and what it is, in the order above.
 pub const KINDS: [(Kind, &str, &str); 17] = [
     (
@@ -88,5 +91,19 @@ impl Kind {
     pub fn named(name: &str) -> Option<Self> {
         let found = KINDS.iter().find(|(_, known, _)| *known == name);
         found.map(|(kind, _, _)| *kind)
+    }
+}
+
+#[cfg(test)]
+mod tests {
+    use super::*;
+
+    #[test]
+    fn kinds_are_found_by_their_names() {
+        for (at, (kind, name, _)) in KINDS.iter().enumerate() {
+            assert_eq!(*kind as usize, at);
+            assert_eq!((kind.name(), Kind::named(name)), (*name, Some(*kind)));
+        }
+        assert_eq!(Kind::named("nothing"), None);
     }
 }

@@ -13,6 +13,13 @@ pub struct Draw {
     edges: Vec<f64>,
 }
 
+/// The 64-bit FNV-1a sum.
+pub fn fnv(bytes: &[u8]) -> u64 {
+    bytes.iter().fold(0xcbf2_9ce4_8422_2325, |hash, &byte| {
+        (hash ^ u64::from(byte)).wrapping_mul(0x0000_0100_0000_01b3)
+    })
+}
+
 /// Values at which something changes in document 01: range ends, tolerances,
 /// bounds, steps and constants. Their negatives and their neighbours by one
 /// ulp are added below.

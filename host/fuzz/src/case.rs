@@ -5,8 +5,8 @@
 use crate::fence::Fence;
 use crate::input::Input;
 use crate::leaves;
-use compare::arms::{Judge, Written};
-use compare::draw::Draw;
+use compare::draw::{fnv, Draw};
+use compare::judge::{Judge, Written};
 use std::fmt::Write as _;
 
 /// The most lists that a call reads, and that it writes.
@@ -24,7 +24,7 @@ pub struct Trial {
 impl Trial {
     /// The number that both sides answer, or what differs.
     pub fn run(&mut self, input: &Input) -> Result<u32, String> {
-        let mut draw = Draw::new(hash(&input.bytes()));
+        let mut draw = Draw::new(fnv(&input.bytes()));
         leaves::check(input, &mut self.matrix, &mut draw)?;
         self.lay_out(input, &mut draw);
         let (number, written) = self
@@ -88,11 +88,4 @@ impl Trial {
         }
         text
     }
-}
-
-/// FNV-1a.
-fn hash(bytes: &[u8]) -> u64 {
-    bytes.iter().fold(0xcbf2_9ce4_8422_2325, |hash, &byte| {
-        (hash ^ u64::from(byte)).wrapping_mul(0x0000_0100_0000_01b3)
-    })
 }

@@ -1,6 +1,6 @@
 //! How often each call answered each number.
 
-use compare::arms::Call;
+use compare::calls::Call;
 use std::fmt;
 use std::time::{Duration, Instant};
 

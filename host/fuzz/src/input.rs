@@ -2,7 +2,7 @@
 //! the lists that it reads, each after its length. Any bytes are a case: a
 //! length beyond the end is cut, and what is missing is 0 or empty.
 
-use compare::arms::Call;
+use compare::calls::Call;
 use compare::sheets::{List, Lists};
 use std::fmt;
 

@@ -7,11 +7,11 @@ use compare::geometry::{four, points_of, three, unit, vector};
 use compare::run::{matches, show};
 use nalgebra::{DMatrix, Point3};
 use parry3d_f64::{query, shape::Segment};
-use proved::{losses, Axis};
 use reference::groove::objective::{groove_loss, swamp_groove_loss, swamp_loss};
 use reference::losses as published;
 use reference::refusals::{f64s, List};
 use reference::spacetime::arm::{get_quat_x, get_quat_y, get_quat_z};
+use relaxed_ik::leaves::{self, Axis};
 use std::array::from_fn;
 
 /// The segment distance takes the most.
@@ -25,75 +25,75 @@ type Side = fn(Numbers) -> Vec<f64>;
 
 /// Name, proved, reference.
 const LEAVES: [(&str, Side, Side); 24] = [
-    ("sqrt", |x| vec![proved::sqrt(x[0])], |x| vec![x[0].sqrt()]),
+    ("sqrt", |x| vec![leaves::sqrt(x[0])], |x| vec![x[0].sqrt()]),
     (
         "sin",
-        |x| vec![proved::sin(x[0])],
+        |x| vec![leaves::sin(x[0])],
         |x| vec![standins::sin(x[0])],
     ),
     (
         "cos",
-        |x| vec![proved::cos(x[0])],
+        |x| vec![leaves::cos(x[0])],
         |x| vec![standins::cos(x[0])],
     ),
     (
         "exp",
-        |x| vec![proved::exp(x[0])],
+        |x| vec![leaves::exp(x[0])],
         |x| vec![standins::exp(x[0])],
     ),
     (
         "atan2",
-        |x| vec![proved::atan2(x[0], x[1])],
+        |x| vec![leaves::atan2(x[0], x[1])],
         |x| vec![standins::atan2(x[0], x[1])],
     ),
     (
         "power20",
-        |x| vec![proved::power20(x[0])],
+        |x| vec![leaves::power20(x[0])],
         |x| vec![standins::powi(x[0], 20)],
     ),
     (
         "power30",
-        |x| vec![proved::power30(x[0])],
+        |x| vec![leaves::power30(x[0])],
         |x| vec![standins::powi(x[0], 30)],
     ),
-    ("b20", |_| vec![proved::b20()], |_| vec![standins::b(20)]),
-    ("b30", |_| vec![proved::b30()], |_| vec![standins::b(30)]),
+    ("b20", |_| vec![leaves::b20()], |_| vec![standins::b(20)]),
+    ("b30", |_| vec![leaves::b30()], |_| vec![standins::b(30)]),
     (
         "cut",
-        |x| vec![proved::cut(x[0])],
+        |x| vec![leaves::cut(x[0])],
         |x| vec![standins::cut(x[0])],
     ),
-    ("abs", |x| vec![proved::abs(x[0])], |x| vec![x[0].abs()]),
+    ("abs", |x| vec![leaves::abs(x[0])], |x| vec![x[0].abs()]),
     (
         "quat_product",
-        |x| proved::quat_product(part(x, 0), part(x, 4)).to_vec(),
+        |x| leaves::quat_product(part(x, 0), part(x, 4)).to_vec(),
         |x| four(unit(part(x, 0)) * unit(part(x, 4))).to_vec(),
     ),
     (
         "quat_inverse",
-        |x| proved::quat_inverse(part(x, 0)).to_vec(),
+        |x| leaves::quat_inverse(part(x, 0)).to_vec(),
         |x| four(unit(part(x, 0)).inverse()).to_vec(),
     ),
     (
         "rotate",
-        |x| proved::rotate(part(x, 0), part(x, 4)).to_vec(),
+        |x| leaves::rotate(part(x, 0), part(x, 4)).to_vec(),
         |x| three(unit(part(x, 0)) * vector(part(x, 4))).to_vec(),
     ),
     (
         "cross",
-        |x| proved::cross(part(x, 0), part(x, 3)).to_vec(),
+        |x| leaves::cross(part(x, 0), part(x, 3)).to_vec(),
         |x| three(vector(part(x, 0)).cross(&vector(part(x, 3)))).to_vec(),
     ),
     (
         "norm",
-        |x| vec![proved::norm(part(x, 0))],
+        |x| vec![leaves::norm(part(x, 0))],
         |x| vec![vector(part(x, 0)).norm()],
     ),
     (
         "get_quat",
         |x| {
             [Axis::X, Axis::Y, Axis::Z]
-                .map(|axis| proved::get_quat(axis, x[0]))
+                .map(|axis| leaves::get_quat(axis, x[0]))
                 .concat()
         },
         |x| {
@@ -104,23 +104,23 @@ const LEAVES: [(&str, Side, Side); 24] = [
     ),
     (
         "scaled_axis",
-        |x| proved::scaled_axis(part(x, 0)).to_vec(),
+        |x| leaves::scaled_axis(part(x, 0)).to_vec(),
         |x| three(unit(part(x, 0)).scaled_axis()).to_vec(),
     ),
     (
         "segment_distance",
-        |x| vec![proved::segment_distance(points_of(x))],
+        |x| vec![leaves::segment_distance(points_of(x))],
         |x| vec![segment_distance(x)],
     ),
     (
         "groove_loss",
-        |x| vec![losses::groove_loss(x[0], x[1], x[2], x[3])],
+        |x| vec![leaves::groove_loss(x[0], x[1], x[2], x[3])],
         |x| vec![groove_loss(x[0], x[1], 2, x[2], x[3], 2)],
     ),
     (
         "swamp_groove_loss",
         |x| {
-            vec![losses::swamp_groove_loss(
+            vec![leaves::swamp_groove_loss(
                 x[0], x[1], x[2], x[3], x[4], x[5], x[6], x[7],
             )]
         },
@@ -134,7 +134,7 @@ const LEAVES: [(&str, Side, Side); 24] = [
         "swamp_loss",
         |x| {
             [20, 30]
-                .map(|p| losses::swamp_loss(x[0], x[1], x[2], x[3], x[4], p))
+                .map(|p| leaves::swamp_loss(x[0], x[1], x[2], x[3], x[4], p))
                 .to_vec()
         },
         |x| {
@@ -145,7 +145,12 @@ const LEAVES: [(&str, Side, Side); 24] = [
     ),
     (
         "loss_position, loss_rotation",
-        |x| vec![losses::position(x[0], x[1]), losses::rotation(x[0], x[1])],
+        |x| {
+            vec![
+                leaves::loss_position(x[0], x[1]),
+                leaves::loss_rotation(x[0], x[1]),
+            ]
+        },
         |x| {
             vec![
                 published::position(x[0], x[1]),
@@ -155,7 +160,7 @@ const LEAVES: [(&str, Side, Side); 24] = [
     ),
     (
         "loss_limits",
-        |x| vec![losses::limits(x[0], x[1], x[2])],
+        |x| vec![leaves::loss_limits(x[0], x[1], x[2])],
         |x| vec![published::limits(x[0], &published::limited(x[1], x[2]))],
     ),
 ];
@@ -208,10 +213,10 @@ fn matrix_length(most: usize, draw: &mut Draw) -> usize {
 fn matrices(fence: &Fence, draw: &mut Draw) -> Result<(), String> {
     let mut floats = Vec::new();
     let list = f64s(fence.list(), &mut floats);
-    let (proved, reference) = (proved::determinant(fence.list()), determinant(list));
+    let (proved, reference) = (leaves::determinant(fence.list()), determinant(list));
     same("determinant", list.numbers, &[proved], &[reference])?;
     let (row, column) = (draw.below(SIDE + 1), draw.below(SIDE + 1));
-    let proved = proved::gram(fence.list(), row as u32, column as u32);
+    let proved = leaves::gram(fence.list(), row as u32, column as u32);
     let name = format!("gram, row {row}, column {column}");
     let reference = gram(list, row, column);
     same(&name, list.numbers, &[proved], &[reference])?;
@@ -258,7 +263,7 @@ fn same(name: &str, numbers: &[f64], proved: &[f64], reference: &[f64]) -> Resul
 mod tests {
     use super::*;
     use crate::mutate::drawn;
-    use compare::arms::Call;
+    use compare::calls::Call;
 
     #[test]
     fn leaves_agree_on_drawn_cases() {

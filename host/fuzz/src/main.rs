@@ -2,7 +2,7 @@
 
 #![forbid(unsafe_code)]
 
-use compare::arms::Call;
+use compare::calls::Call;
 use compare::draw::Draw;
 use fuzz::input::Input;
 use fuzz::mutate::drawn;

@@ -3,11 +3,11 @@
 //! outside of its range is brought in.
 
 use crate::input::{Input, MOST};
-use compare::arms::Call;
+use compare::calls::Call;
 use compare::sheets::{List, Lists, Shape, CODES};
-use proved::{put_floats, put_u16s};
 use reference::refusals::{f64s, u16s};
 use reference::sheet::{GOAL_FLOATS, LINK_FLOATS};
+use relaxed_ik::bytes::{put_floats, put_u16s};
 
 const MOST_CHAINS: usize = 4;
 const MOST_LINKS: usize = 16;
@@ -184,8 +184,8 @@ fn make_room(input: &mut Input) {
 mod tests {
     use super::*;
     use crate::mutate::{change, drawn};
-    use compare::arms::Judge;
     use compare::draw::Draw;
+    use compare::judge::Judge;
 
     /// Whatever a case has become, it is taken once it is mended; and mending
     /// it again changes nothing.

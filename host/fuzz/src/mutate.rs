@@ -4,7 +4,7 @@
 
 use crate::input::{Input, MOST};
 use crate::mend::mend;
-use compare::arms::Call;
+use compare::calls::Call;
 use compare::draw::Draw;
 use compare::sheets::{damages, Fit, Lists};
 use compare::source::{kind, Source};

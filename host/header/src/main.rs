@@ -1,6 +1,6 @@
-//! Holds every declaration of the library against its source: the C header by
-//! names and parameters, the Rust declarations by names and types. Nothing else
-//! would notice one that is wrong: a linker looks at names alone.
+//! Holds the C header and the Rust declarations against the library's source:
+//! names, types, their order and the parameters' names. Nothing else would notice
+//! one that is wrong: a linker looks at names alone.
 
 #![forbid(unsafe_code)]
 
@@ -19,8 +19,9 @@ header [ROOT] [--source DIR] [--may-lack NAME,NAME..]
   --source    the library's source (default: ROOT/crates/exports/src)
   --may-lack  names that the library need not have yet";
 
-/// Where the library is declared for Rust, a file or a folder each.
-const RUST: [&str; 2] = ["host/proved/src", "host/relaxed_ik/src/bytes.rs"];
+/// Where the library is declared for C and for Rust, a file or a folder.
+const HEADER: &str = "include/relaxed_ik.h";
+const RUST: &str = "host/relaxed_ik/src";
 
 struct Options {
     root: String,
@@ -92,28 +93,20 @@ fn gather(
 }
 
 /// What differs, name by name, and how many names agree.
-fn hold(
-    source: &Functions,
-    declared: &Functions,
-    by_names: bool,
-    complete: bool,
-    may_lack: &[String],
-) -> (usize, Vec<String>) {
+fn hold(source: &Functions, declared: &Functions, may_lack: &[String]) -> (usize, Vec<String>) {
     let (mut same, mut faults) = (0, Vec::new());
     for (name, function) in declared {
         match source.get(name) {
             None if may_lack.contains(name) => println!("  {name}: not in the library yet"),
             None => faults.push(format!("{name} is declared and not in the library")),
-            Some(own) if own.agrees(function, by_names) => same += 1,
+            Some(own) if own == function => same += 1,
             Some(own) => faults.push(format!(
                 "{name} differs\n    library:  {own}\n    declared: {function}"
             )),
         }
     }
-    if complete {
-        for name in source.keys().filter(|name| !declared.contains_key(*name)) {
-            faults.push(format!("{name} is in the library and not declared"));
-        }
+    for name in source.keys().filter(|name| !declared.contains_key(*name)) {
+        faults.push(format!("{name} is in the library and not declared"));
     }
     (same, faults)
 }
@@ -135,21 +128,10 @@ fn run(options: &Options) -> Result<(usize, usize), String> {
         passed += same;
         failed += faults.len();
     };
-    let header = "include/relaxed_ik.h";
-    let declared = gather(&texts(&root.join(header), "h")?, parse::c)?;
-    report(
-        header,
-        hold(&source, &declared, true, true, &options.may_lack),
-    );
-    for (at, place) in RUST.iter().enumerate() {
-        let declared = gather(&texts(&root.join(place), "rs")?, parse::rust)?;
-        // The wrapper declares everything and names the parameters as the source does.
-        let wrapper = at == 1;
-        report(
-            place,
-            hold(&source, &declared, wrapper, wrapper, &options.may_lack),
-        );
-    }
+    let header = gather(&texts(&root.join(HEADER), "h")?, parse::c)?;
+    report(HEADER, hold(&source, &header, &options.may_lack));
+    let rust = gather(&texts(&root.join(RUST), "rs")?, parse::rust)?;
+    report(RUST, hold(&source, &rust, &options.may_lack));
     Ok((passed, failed))
 }
 
@@ -208,7 +190,7 @@ mod tests {
     fn faults(header: &str) -> Vec<String> {
         let declared = gather(&[("text".to_string(), header.to_string())], parse::c);
         match declared {
-            Ok(declared) => hold(&one(SOURCE, parse::rattle), &declared, true, true, &[]).1,
+            Ok(declared) => hold(&one(SOURCE, parse::rattle), &declared, &[]).1,
             Err(fault) => vec![fault],
         }
     }
@@ -240,22 +222,31 @@ mod tests {
     }
 
     #[test]
-    fn rust_declarations_are_held_by_types() {
-        let rust = "extern \"C\" { pub fn ik_pose(a: *const u8, a_length: usize, b: *mut u8, \
-                    b_length: usize) -> u32; pub fn ik_b() -> f64; }";
+    fn rust_declarations_are_held_in_the_same_way() {
+        let rust = "extern \"C\" { pub fn ik_pose(sizes: *const u8, sizes_length: usize, \
+                    ends: *mut u8, ends_length: usize) -> u32; pub fn ik_b() -> f64; }";
         let source = one(SOURCE, parse::rattle);
-        assert!(hold(&source, &one(rust, parse::rust), false, true, &[])
-            .1
-            .is_empty());
-        assert!(!hold(&source, &one(rust, parse::rust), true, true, &[])
-            .1
-            .is_empty());
-        let swapped = rust.replacen("*const", "*mut", 1);
-        assert!(
-            !hold(&source, &one(&swapped, parse::rust), false, true, &[])
-                .1
-                .is_empty()
-        );
+        let faults = |rust: &str| hold(&source, &one(rust, parse::rust), &[]).1;
+        assert!(faults(rust).is_empty());
+        for (good, bad) in [
+            ("*const", "*mut"),
+            ("sizes_length", "length"),
+            ("-> u32", "-> u16"),
+            ("pub fn ik_b() -> f64;", ""),
+        ] {
+            let wrong = rust.replacen(good, bad, 1);
+            assert_eq!(faults(&wrong).len(), 1, "{good} as {bad}");
+        }
+    }
+
+    #[test]
+    fn a_second_declaration_is_a_fault() {
+        let text = |name: &str| {
+            let text = "extern \"C\" { pub fn ik_b() -> f64; }";
+            (name.to_string(), text.to_string())
+        };
+        assert!(gather(&[text("one")], parse::rust).is_ok());
+        assert!(gather(&[text("one"), text("two")], parse::rust).is_err());
     }
 
     #[test]
@@ -263,8 +254,8 @@ mod tests {
         let header = HEADER.replace("double ik_b", "double ik_d(void); double ik_b");
         let (source, declared) = (one(SOURCE, parse::rattle), one(&header, parse::c));
         let listed = ["ik_d".to_string()];
-        assert!(hold(&source, &declared, true, true, &listed).1.is_empty());
-        assert_eq!(hold(&source, &declared, true, true, &[]).1.len(), 1);
+        assert!(hold(&source, &declared, &listed).1.is_empty());
+        assert_eq!(hold(&source, &declared, &[]).1.len(), 1);
     }
 
     #[test]

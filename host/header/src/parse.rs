@@ -20,17 +20,6 @@ pub struct Function {
     pub answer: Type,
 }
 
-impl Function {
-    /// The same types in the same order, and the same names if asked.
-    pub fn agrees(&self, other: &Self, by_names: bool) -> bool {
-        let pairs = || self.parameters.iter().zip(&other.parameters);
-        self.name == other.name
-            && self.answer == other.answer
-            && self.parameters.len() == other.parameters.len()
-            && pairs().all(|(a, b)| a.1 == b.1 && (!by_names || a.0 == b.0))
-    }
-}
-
 impl fmt::Display for Function {
     fn fmt(&self, f: &mut fmt::Formatter) -> fmt::Result {
         write!(f, "{:?} {}(", self.answer, self.name)?;

@@ -5,7 +5,7 @@ use crate::header::Declaration;
 use crate::numbers::{self, Theorem};
 use crate::repository::{Id, Item, Meaning, Repository};
 use crate::source;
-use std::collections::{BTreeMap, BTreeSet};
+use std::collections::BTreeMap;
 
 pub const HEADER: &str = "include/relaxed_ik.h";
 const PREFIX: &str = "relaxed_ik_";
@@ -22,9 +22,9 @@ floats to that of its byte form.
   none does.
 - *Rests on*: how many definitions and types the contract names, directly or through others, and how many lines of code those are;
   [TRUST.md](TRUST.md#the-definitions-file-by-file) has them file by file.
-- *Edits*: wrong programs that the prover has to refuse in every run of the gate. [DECISIONS.md](DECISIONS.md#what-the-must-fail-edits-rule-out) says what
-  each is, and so does the link's title. An edit stands at the smallest calls that run what it changes or whose contract rests on it; larger calls rule it out
-  with them.
+- *Edits*: wrong programs that the prover has to refuse in every run of the gate, each at all calls whose answers it changes for some input: the number, the
+  value, the state or a list. The edit's own line `calls:` names them. [DECISIONS.md](DECISIONS.md#what-the-must-fail-edits-rule-out) says what each is, and so
+  does the link's title.
 ";
 
 /// What the page is made from.
@@ -44,8 +44,8 @@ pub struct Call<'a> {
     closure: Vec<Id>,
     pub theorem: Option<&'a Theorem>,
     pub header: Option<&'a Declaration>,
-    /// The edits of what it runs and of what its contract rests on.
-    edits: BTreeSet<usize>,
+    /// Those that change its answers.
+    pub edits: Vec<&'a Edit>,
 }
 
 impl Call<'_> {
@@ -62,6 +62,12 @@ impl Call<'_> {
 pub struct Calls<'a> {
     pub state: Vec<Call<'a>>,
     pub exported: Vec<Call<'a>>,
+}
+
+impl<'a> Calls<'a> {
+    pub fn all(&self) -> impl Iterator<Item = &Call<'a>> {
+        self.state.iter().chain(&self.exported)
+    }
 }
 
 /// A link from a page in docs/ to a line.
@@ -102,20 +108,14 @@ impl<'a> Sources<'a> {
             named,
             theorem: numbers::of_call(self.theorems, &closure),
             header,
-            edits: self.ruled_out(id, &closure),
+            edits: self.edits_of(&code.name),
             closure,
         })
     }
 
-    fn ruled_out(&self, id: Id, closure: &[Id]) -> BTreeSet<usize> {
-        let mut touched = self.all.reached(id);
-        touched.extend(closure);
-        let changes = |edit: &Edit| edit.items.iter().any(|item| touched.contains(item));
-        let edits = self.edits.iter().enumerate();
-        edits
-            .filter(|(_, edit)| changes(edit))
-            .map(|(at, _)| at)
-            .collect()
+    fn edits_of(&self, call: &str) -> Vec<&'a Edit> {
+        let changes = |edit: &&Edit| edit.calls.iter().any(|name| name == call);
+        self.edits.iter().filter(changes).collect()
     }
 
     /// The public calls, in the header's order.
@@ -144,7 +144,7 @@ impl<'a> Sources<'a> {
         )
     }
 
-    fn row(&self, call: &Call, group: &[&Call], numbered: bool) -> String {
+    fn row(&self, call: &Call, numbered: bool) -> String {
         let item = &self.all.items[call.id];
         let clauses = call.code.clauses.iter();
         let clauses = clauses.map(|clause| link(&clause.name, &item.path, clause.line));
@@ -160,18 +160,18 @@ impl<'a> Sources<'a> {
             joined(named),
             format!("{count}, {lines} lines"),
             call.header.map_or(String::new(), declared),
-            joined(own(call, group).map(|at| edit_link(&self.edits[at]))),
+            joined(call.edits.iter().map(|edit| edit_link(edit))),
         ]);
         format!("| {} |\n", cells.join(" | "))
     }
 
-    fn table(&self, calls: &[&Call], group: &[&Call], numbered: bool) -> String {
+    fn table(&self, calls: &[&Call], numbered: bool) -> String {
         let answers = if numbered { " Answers |" } else { "" };
         let head = format!(
             "| Call | What it does |{answers} Contract | Definitions and types | Rests on | Header | Edits |"
         );
         let columns = "---|".repeat(head.matches('|').count() - 1);
-        let rows = calls.iter().map(|call| self.row(call, group, numbered));
+        let rows = calls.iter().map(|call| self.row(call, numbered));
         format!("{head}\n|{columns}\n{}", rows.collect::<String>())
     }
 
@@ -180,30 +180,17 @@ impl<'a> Sources<'a> {
         let (bytes, numbers): (Vec<&Call>, Vec<&Call>) =
             exported.partition(|c| c.theorem.is_some());
         let state: Vec<&Call> = calls.state.iter().collect();
-        let on_floats: Vec<&Call> = state.iter().chain(&numbers).copied().collect();
-        let on_bytes: Vec<&Call> = bytes.iter().chain(&numbers).copied().collect();
         format!(
             "{TOP}\n## The state, on floats\n\n{}\n## Byte calls\n\n{}\n## Functions of numbers\n\n{}",
-            self.table(&state, &on_floats, true),
-            self.table(&bytes, &on_bytes, true),
-            self.table(&numbers, &on_bytes, false),
+            self.table(&state, true),
+            self.table(&bytes, true),
+            self.table(&numbers, false),
         )
     }
 }
 
 fn joined(parts: impl Iterator<Item = String>) -> String {
     parts.collect::<Vec<_>>().join(", ")
-}
-
-/// The edits that no smaller call of the group has.
-fn own<'b>(call: &'b Call, group: &[&'b Call]) -> impl Iterator<Item = usize> + 'b {
-    let is_smaller = |other: &Call| other.edits.is_subset(&call.edits) && other.edits != call.edits;
-    let smaller = group.iter().filter(|other| is_smaller(other));
-    let theirs: BTreeSet<usize> = smaller
-        .flat_map(|other| other.edits.iter().copied())
-        .collect();
-    let own = call.edits.iter().copied();
-    own.filter(move |edit| !theirs.contains(edit))
 }
 
 fn edit_link(edit: &Edit) -> String {

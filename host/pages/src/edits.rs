@@ -1,7 +1,7 @@
-//! The must-fail edits: which item each changes, and the wrong program that it stands for.
+//! The must-fail edits: the wrong program that each stands for, and the public calls whose answers it changes.
 
 use crate::files;
-use crate::repository::{Id, Item, Repository};
+use crate::repository::Repository;
 use std::collections::BTreeMap;
 use std::path::Path;
 
@@ -14,8 +14,8 @@ pub struct Edit {
     pub path: String,
     /// The wrong program, if docs/DECISIONS.md has a row for it.
     pub wrong: Option<String>,
-    /// The items that it changes.
-    pub items: Vec<Id>,
+    /// The public calls whose answers it changes, by its lines `calls:`, which the prover passes over.
+    pub calls: Vec<String>,
 }
 
 /// The rows `| crate/edit | the wrong program |` of a page.
@@ -43,38 +43,32 @@ fn replaced(text: &str) -> Vec<(String, String)> {
     all
 }
 
-/// The item around the text that an edit replaces.
-fn changed(all: &Repository, root: &Path, path: &str, old: &str) -> Result<Id, String> {
-    let text = files::text(root, path)?;
-    let at = text
-        .find(old)
-        .ok_or_else(|| format!("'{old}' is not in {path}"))?;
-    let line = text[..at].matches('\n').count() + 1;
-    let around = |item: &Item| {
-        let place = item.place();
-        item.path == path && (place.line..=place.last).contains(&line)
-    };
-    let found = all.items.iter().position(around);
-    found.ok_or_else(|| format!("line {line} of {path} belongs to no item"))
+/// The names of the `calls:` lines.
+fn calls(text: &str) -> Vec<String> {
+    let lines = text.lines().filter_map(|line| line.strip_prefix("calls:"));
+    let names = lines.flat_map(str::split_whitespace);
+    names.map(str::to_string).collect()
 }
 
-fn read(all: &Repository, root: &Path, krate: &str, path: String) -> Result<Edit, String> {
+fn read(root: &Path, krate: &str, path: String) -> Result<Edit, String> {
     let short = path
         .rsplit('/')
         .next()
         .unwrap_or("")
         .trim_end_matches(".edit");
     let name = format!("{krate}/{short}");
-    let mut items = Vec::new();
-    for (file, old) in replaced(&files::text(root, &path)?) {
-        let id = changed(all, root, &format!("crates/{krate}/{file}"), &old);
-        items.push(id.map_err(|fault| format!("{path}: {fault}"))?);
+    let text = files::text(root, &path)?;
+    for (file, old) in replaced(&text) {
+        let file = format!("crates/{krate}/{file}");
+        if !files::text(root, &file)?.contains(&old) {
+            return Err(format!("{path}: '{old}' is not in {file}"));
+        }
     }
     Ok(Edit {
         name,
         path,
         wrong: None,
-        items,
+        calls: calls(&text),
     })
 }
 
@@ -84,9 +78,7 @@ pub fn all(all: &Repository, root: &Path) -> Result<(Vec<Edit>, Vec<String>), St
     let mut edits = Vec::new();
     for one in &all.crates {
         let paths = files::below(root, &format!("crates/{}/must-fail", one.name), "edit")?;
-        let read = paths
-            .into_iter()
-            .map(|path| read(all, root, &one.name, path));
+        let read = paths.into_iter().map(|path| read(root, &one.name, path));
         edits.extend(read.collect::<Result<Vec<_>, _>>()?);
     }
     let fill = |edit: &mut Edit| edit.wrong = told.remove(&edit.name);
@@ -109,6 +101,10 @@ mod tests {
         assert_eq!(
             pairs,
             [owned("src/lib.rt", "    a + 1"), owned("src/lib.rt", "b")]
+        );
+        assert_eq!(
+            calls("calls: load pose\nfile: src/lib.rt\ncalls: reset\n"),
+            ["load", "pose", "reset"]
         );
     }
 }

@@ -3,25 +3,10 @@
 
 #![forbid(unsafe_code)]
 
-mod calls;
-mod counts;
-mod edits;
-mod files;
-mod header;
-mod layers;
-mod layout;
-mod links;
-mod numbers;
-mod picture;
-mod repository;
-mod scope;
-mod source;
-mod specs;
-mod words;
-
-use calls::{Calls, Sources};
-use counts::Counts;
-use repository::Repository;
+use pages::calls::{self, Calls, Sources};
+use pages::counts::Counts;
+use pages::repository::Repository;
+use pages::{edits, files, header, links, numbers, picture};
 use std::path::Path;
 use std::process::ExitCode;
 use std::{env, fs};
@@ -117,7 +102,7 @@ fn hold_answers(calls: &Calls, report: &mut Report) {
 
 /// No public call has a `requires`.
 fn hold_unasked(calls: &Calls, report: &mut Report) {
-    for call in calls.state.iter().chain(&calls.exported) {
+    for call in calls.all() {
         report.hold(call.asks_nothing(), || {
             format!("{} has a 'requires'", call.name())
         });
@@ -136,6 +121,26 @@ fn hold_edits(edits: &[edits::Edit], stray: Vec<String>, report: &mut Report) {
     report.faults.extend(stray.into_iter().map(fault));
 }
 
+/// Edits that change a call's answers, at least.
+const EDITS_A_CALL: usize = 2;
+
+/// An edit names public calls alone, and each call has edits that change its answers.
+fn hold_edited(calls: &Calls, edits: &[edits::Edit], report: &mut Report) {
+    for edit in edits {
+        for name in &edit.calls {
+            report.hold(calls.all().any(|call| call.name() == name), || {
+                format!("{}: there is no public call {name}", edit.path)
+            });
+        }
+    }
+    for call in calls.all() {
+        let (name, count) = (call.name(), call.edits.len());
+        report.hold(count >= EDITS_A_CALL, || {
+            format!("{name}: must-fail edits that change its answers: {count}")
+        });
+    }
+}
+
 /// What is made of the sources: whole pages, and parts of others.
 fn make(root: &Path, report: &mut Report) -> Result<(Vec<Page>, Vec<Part>), String> {
     let all = Repository::read(root)?;
@@ -151,6 +156,7 @@ fn make(root: &Path, report: &mut Report) -> Result<(Vec<Page>, Vec<Part>), Stri
     let calls = sources.gather()?;
     hold_answers(&calls, report);
     hold_unasked(&calls, report);
+    hold_edited(&calls, &edits, report);
     let page = |path: &str, text: String| Page {
         path: path.to_string(),
         text,

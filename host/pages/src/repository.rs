@@ -276,34 +276,6 @@ impl Repository {
         (count, items().map(|item| item.place().lines).sum())
     }
 
-    /// The functions and constants that a function reaches by its calls, itself among them.
-    pub fn reached(&self, from: Id) -> BTreeSet<Id> {
-        let mut seen = BTreeSet::from([from]);
-        let mut waiting = vec![from];
-        while let Some(id) = waiting.pop() {
-            let mut called = self.called(id);
-            called.retain(|next| seen.insert(*next));
-            waiting.extend(called);
-        }
-        seen
-    }
-
-    /// What a function's body names: by path, or, as a method, by its last word.
-    fn called(&self, id: Id) -> Vec<Id> {
-        let item = &self.items[id];
-        let Some(code) = item.code() else {
-            return Vec::new();
-        };
-        let paths = code.calls.iter();
-        let by_path = paths.filter_map(|name| self.code_means(&item.path, name));
-        let is_method = |other: &Item| {
-            let method = other.code().is_some_and(|code| code.method);
-            method && code.calls.contains(other.name())
-        };
-        let methods = (0..self.items.len()).filter(|other| is_method(&self.items[*other]));
-        by_path.chain(methods).collect()
-    }
-
     /// The functions that a crate shows to others.
     pub fn calls(&self, of: &str) -> Vec<Id> {
         let folder = format!("crates/{of}/src/");

@@ -2,7 +2,7 @@
 
 use crate::scope::{self, Names};
 use crate::specs::{self, Imports, Place};
-use crate::words;
+use crate::words::{self, Word};
 use std::collections::BTreeMap;
 use std::ops::Range;
 
@@ -15,6 +15,7 @@ pub struct Clause {
     pub line: usize,
     /// The names that it refers to, but for parameters.
     pub uses: Names,
+    pub text: Vec<Word>,
 }
 
 #[derive(Clone, Copy, Debug, PartialEq)]
@@ -29,15 +30,13 @@ pub struct Item {
     pub name: String,
     pub kind: Kind,
     pub place: Place,
-    /// Whether it stands in an `impl`, and is called behind a dot.
-    pub method: bool,
     /// The comment above it.
     pub about: String,
     pub clauses: Vec<Clause>,
     /// The types that a signature, a field or a case names.
     pub types: Names,
-    /// The functions and constants that the body names, as it writes them.
-    pub calls: Names,
+    /// Its text without comments; a function's up to its contract.
+    pub text: String,
 }
 
 #[derive(Debug)]
@@ -106,22 +105,6 @@ fn paths(text: &str) -> Vec<(&str, char)> {
     found
 }
 
-/// The functions that code calls and the constants that it names.
-fn calls(body: &str) -> Names {
-    let last = |path: &str| path.rsplit("::").next().unwrap_or(path).to_string();
-    let constant = |name: &str| {
-        name.len() > 1
-            && name.chars().all(|c| !c.is_ascii_lowercase())
-            && !name.starts_with(|c: char| c.is_ascii_digit())
-    };
-    let wanted = |(path, behind): &(&str, char)| *behind == '(' || constant(&last(path));
-    paths(body)
-        .into_iter()
-        .filter(wanted)
-        .map(|(path, _)| path.to_string())
-        .collect()
-}
-
 /// The types that a signature or a type's body names.
 fn types(text: &str) -> Names {
     let named = paths(text).into_iter().map(|(path, _)| path);
@@ -147,11 +130,13 @@ fn clause(text: &str, head: &Range<usize>, body: &Range<usize>, bound: &Names) -
     let named: Vec<&str> = words.skip_while(|word| !CLAUSES.contains(word)).collect();
     let kind = text[head.clone()].find(named.first()?)?;
     let inside = text[body.clone()].trim_matches(['{', '}']);
+    let inside = words::words(inside);
     Some(Clause {
         name: named.last()?.to_string(),
         asks: named.first() == Some(&"requires"),
         line: line_of(text, head.start + kind),
-        uses: scope::free(&words::words(inside), bound),
+        uses: scope::free(&inside, bound),
+        text: inside,
     })
 }
 
@@ -167,12 +152,20 @@ fn function(text: &str, open: usize, item: &mut Item) -> usize {
         let brace = brace_from(at);
         let end = closed(text, brace, '{', '}');
         let Some(clause) = clause(text, &(at..brace), &(brace..end), &bound) else {
-            item.calls = calls(&text[brace..end]);
             return end;
         };
         item.clauses.push(clause);
         at = end;
     }
+}
+
+/// A function's text up to its contract or body.
+fn signature(text: &str) -> &str {
+    let clauses = CLAUSES
+        .iter()
+        .filter_map(|word| text.find(&format!(" {word} ")));
+    let ends = text.find('{').into_iter().chain(clauses);
+    text[..ends.min().unwrap_or(text.len())].trim()
 }
 
 /// What a line declares: the word for it, the name, and whether others see it.
@@ -197,11 +190,10 @@ fn item(text: &str, bare: &str, at: usize, line: &str) -> Option<(Item, usize)> 
         name: name.to_string(),
         kind: Kind::Type,
         place: Place::default(),
-        method: line.starts_with(' '),
         about: about(text, first),
         clauses: Vec::new(),
         types: Names::new(),
-        calls: Names::new(),
+        text: String::new(),
     };
     let end = match word {
         "fn" => {
@@ -220,6 +212,11 @@ fn item(text: &str, bare: &str, at: usize, line: &str) -> Option<(Item, usize)> 
         }
         _ => return None,
     };
+    item.text = match item.kind {
+        Kind::Function { .. } => signature(&bare[at..end]),
+        _ => &bare[at..end],
+    }
+    .to_string();
     let lines = bare[at..end].lines().filter(|line| !line.trim().is_empty());
     item.place = Place {
         line: first,
@@ -334,7 +331,7 @@ fn inner(x: f64) -> f64 {
     }
 
     #[test]
-    fn a_function_has_its_contract_and_its_calls() {
+    fn a_function_has_its_contract() {
         let file = parse(TEXT);
         let sum = &file.items[2];
         assert_eq!(sum.kind, Kind::Function { public: true });
@@ -351,10 +348,6 @@ fn inner(x: f64) -> f64 {
             ["now", "sumOf", "≡", "⊕"]
         );
         assert_eq!(sum.types.iter().collect::<Vec<_>>(), ["Pair", "State"]);
-        assert_eq!(
-            sum.calls.iter().collect::<Vec<_>>(),
-            ["LARGE", "bytes::first", "inner"]
-        );
         assert_eq!(file.items[0].types.iter().collect::<Vec<_>>(), ["Kind"]);
         assert_eq!(file.items[0].about, "Two floats.");
     }

@@ -41,6 +41,8 @@ pub struct Item {
     /// The words of its type, if it is a law.
     pub statement: Vec<Word>,
     pub text: Vec<Word>,
+    /// The heads of the modules around it, whose parameters are its own.
+    pub heads: Vec<Word>,
 }
 
 #[derive(Debug)]
@@ -57,6 +59,13 @@ struct Entry {
     words: Vec<Word>,
     /// What the modules around it bind.
     outer: Names,
+    heads: Vec<Word>,
+}
+
+/// A module that is open: how far in its lines stand, and its head.
+struct Block {
+    indent: usize,
+    head: Vec<Word>,
 }
 
 /// The parts by which an operator is written: `_⊕_` as `⊕`.
@@ -139,8 +148,7 @@ fn written(name: &str) -> Vec<&str> {
 #[derive(Default)]
 struct Gather {
     entries: Vec<Entry>,
-    /// The indentation of each open block, and what its module binds.
-    blocks: Vec<(usize, Names)>,
+    blocks: Vec<Block>,
 }
 
 impl Gather {
@@ -151,12 +159,12 @@ impl Gather {
         }
         let indent = code.len() - code.trim_start().len();
         self.open(indent);
-        while self.blocks.pop_if(|(at, _)| indent < *at).is_some() {}
-        if self.blocks.last().is_some_and(|(at, _)| indent == *at) {
-            let names = self.blocks.iter().flat_map(|(_, names)| names.clone());
-            let outer = names.collect();
+        while self.blocks.pop_if(|b| indent < b.indent).is_some() {}
+        if self.blocks.last().is_some_and(|b| indent == b.indent) {
+            let names = self.blocks.iter().flat_map(|b| scope::bound(&b.head));
             let mut entry = Entry {
-                outer,
+                outer: names.collect(),
+                heads: self.blocks.iter().flat_map(|b| b.head.clone()).collect(),
                 ..Default::default()
             };
             entry.place.line = number;
@@ -173,14 +181,15 @@ impl Gather {
     /// Opens the file's own block, or that of a module whose head is complete.
     fn open(&mut self, indent: usize) {
         let Some(entry) = self.entries.last() else {
-            self.blocks = vec![(indent, Names::new())];
+            let head = Vec::new();
+            self.blocks = vec![Block { indent, head }];
             return;
         };
         let head = entry.text.trim();
-        let inside = self.blocks.last().is_some_and(|(at, _)| indent > *at);
+        let inside = self.blocks.last().is_some_and(|b| indent > b.indent);
         if inside && head.starts_with("module ") && head.ends_with("where") {
-            let names = scope::bound(&words::words(head));
-            self.blocks.push((indent, names));
+            let head = words::words(head);
+            self.blocks.push(Block { indent, head });
         }
     }
 }
@@ -255,6 +264,7 @@ fn begun(entry: &Entry) -> Option<Item> {
         cases: cases(entry),
         statement,
         text: entry.words.clone(),
+        heads: entry.heads.clone(),
     })
 }
 
@@ -385,6 +395,7 @@ pub record Pair : Type 0 where
         assert_eq!(law.kind, Kind::Law);
         assert_eq!(listed(&law.uses), ["A", "refl", "≡"]);
         assert_eq!(law.statement.len(), 10);
+        assert_eq!((law.heads.len(), sum.heads.len()), (15, 0));
         let pair = item(&file, "Pair");
         assert_eq!(
             (pair.kind, pair.place),

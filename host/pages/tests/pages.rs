@@ -14,7 +14,7 @@ impl Drop for Small {
     }
 }
 
-const FILES: [(&str, &str); 15] = [
+const FILES: [(&str, &str); 17] = [
     ("crates.txt", "ground:\nrelaxed_ik: ground\nexports: ground\n"),
     (
         "crates/ground/src/lib.rt",
@@ -34,7 +34,15 @@ const FILES: [(&str, &str); 15] = [
     ),
     (
         "crates/ground/must-fail/minus.edit",
-        "file: src/lib.rt\nold:     x + x\nnew:     x - x\n",
+        "calls: load\nfile: src/lib.rt\nold:     x + x\nnew:     x - x\n",
+    ),
+    (
+        "crates/ground/must-fail/times.edit",
+        "calls: load relaxed_ik_load\nfile: src/lib.rt\nold:     x + x\nnew:     x * x\n",
+    ),
+    (
+        "crates/ground/must-fail/half.edit",
+        "calls: relaxed_ik_load\nfile: src/lib.rt\nold:     x + x\nnew:     x / x\n",
     ),
     ("crates/relaxed_ik/src/lib.rt", "pub mod state;\nmod inner;\n"),
     (
@@ -55,7 +63,7 @@ const FILES: [(&str, &str); 15] = [
     ),
     (
         "docs/DECISIONS.md",
-        "# Decisions\n\n| Edit | The wrong program |\n|---|---|\n| ground/minus | nothing but 0 |\n\n## What the must-fail edits rule out\n",
+        "# Decisions\n\n| Edit | The wrong program |\n|---|---|\n| ground/minus | nothing but 0 |\n| ground/times | the square |\n| ground/half | nothing but 1 |\n\n## What the must-fail edits rule out\n",
     ),
     (
         "docs/TRUST.md",
@@ -180,11 +188,38 @@ fn a_call_has_its_contract_its_numbers_and_its_edits() {
     ] {
         assert!(load.contains(cell), "{cell} is not in {load}");
     }
-    assert!(row("[`relaxed_ik_load`]").contains("| Doubles. |"));
+    let exported = row("[`relaxed_ik_load`]");
+    assert!(exported.contains("| Doubles. |"));
+    assert!(
+        !exported.contains("ground/minus"),
+        "an edit stands where its own line says, whatever the call runs"
+    );
     assert!(
         !calls.contains("hidden"),
         "a function of a private module is no call"
     );
+}
+
+#[test]
+fn an_edit_names_its_calls() {
+    let small = Small::new();
+    let (good, said) = small.check();
+    assert!(good, "{said}");
+    let times = "crates/ground/must-fail/times.edit";
+    small.change(times, "calls: load relaxed_ik_load", "calls: load");
+    small.fails(
+        "relaxed_ik_load: must-fail edits that change its answers: 1",
+        false,
+    );
+    small.change(times, "calls: load", "calls: load relaxed_ik_load");
+    let path = "crates/ground/must-fail/minus.edit";
+    small.change(path, "calls: load", "calls: load relaxed_ik_load");
+    small.fails("docs/CALLS.md: out of date", true);
+    small.change(path, "calls: load", "calls: lod");
+    small.fails("minus.edit: there is no public call lod", false);
+    small.change(path, "calls: lod", "calls: load");
+    small.change(path, "x + x", "x + y");
+    small.fails("'    x + y' is not in crates/ground/src/lib.rt", false);
 }
 
 #[test]

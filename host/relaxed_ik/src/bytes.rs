@@ -302,6 +302,18 @@ pub fn of_floats(floats: &[f64]) -> &[u8] {
     unsafe { std::slice::from_raw_parts(floats.as_ptr().cast(), size_of_val(floats)) }
 }
 
+/// The u16s as the library reads them, in place of what `bytes` held.
+pub fn put_u16s(numbers: &[u16], bytes: &mut Vec<u8>) {
+    bytes.clear();
+    bytes.extend_from_slice(of_u16s(numbers));
+}
+
+/// The floats as the library reads them, in place of what `bytes` held.
+pub fn put_floats(floats: &[f64], bytes: &mut Vec<u8>) {
+    bytes.clear();
+    bytes.extend_from_slice(of_floats(floats));
+}
+
 /// The u16s as the library writes them.
 pub fn of_u16s_mut(numbers: &mut [u16]) -> &mut [u8] {
     // Safety: as above, lent exclusively, and every bit pattern is a u16.
@@ -429,17 +441,18 @@ pub fn load(sheet: Sheet) -> u32 {
     call!(relaxed_ik_load, sheet)
 }
 
-/// 13 floats a chain.
+/// 13 floats a chain: position, rotation w first, six tolerances.
 pub fn set_goals(sheet: Sheet, goals: &[u8]) -> u32 {
     call!(relaxed_ik_set_goals, sheet, read goals)
 }
 
-/// Positions by three and rotations by four.
+/// Positions by three and rotations by four, w first, chain after chain: L
+/// links have L + 1 positions and L + 2 rotations.
 pub fn frames(sheet: Sheet, joints: &[u8], positions: &mut [u8], rotations: &mut [u8]) -> u32 {
     call!(relaxed_ik_frames, sheet, read joints, write positions, write rotations)
 }
 
-/// Seven floats a chain.
+/// Seven floats a chain: position, rotation w first.
 pub fn pose(sheet: Sheet, joints: &[u8], ends: &mut [u8]) -> u32 {
     call!(relaxed_ik_pose, sheet, read joints, write ends)
 }
@@ -449,12 +462,12 @@ pub fn manipulability(sheet: Sheet, joints: &[u8], value: &mut [u8]) -> u32 {
     call!(relaxed_ik_manipulability, sheet, read joints, write value)
 }
 
-/// Four blocks of joints, and seven floats a chain.
+/// Four blocks of joints, current first, and the end poses as in `pose`.
 pub fn reset(sheet: Sheet, joints: &[u8], history: &mut [u8], ends: &mut [u8]) -> u32 {
     call!(relaxed_ik_reset, sheet, read joints, write history, write ends)
 }
 
-/// Four blocks of joints.
+/// Four blocks of joints, laid out as the old ones.
 pub fn update(sheet: Sheet, history: &[u8], joints: &[u8], new_history: &mut [u8]) -> u32 {
     call!(relaxed_ik_update, sheet, read history, read joints, write new_history)
 }
@@ -468,8 +481,9 @@ pub struct Given<'a> {
     pub history: &'a [u8],
 }
 
-/// The three lists of the one-block call's record: two u16s and seven floats an
-/// entry.
+/// The three lists of the one-block call's record, an entry for each walked
+/// link: the joint raised (65535 in the first walk) and the link, a u16 each,
+/// and the pose after that link, seven floats.
 #[cfg(feature = "objective")]
 #[derive(Debug)]
 pub struct Record<'a> {
@@ -484,7 +498,8 @@ pub fn objective(given: Given, joints: &[u8], value: &mut [u8]) -> u32 {
     call!(relaxed_ik_objective, given.sheet, read given.goals, read given.history, read joints, write value)
 }
 
-/// A float a joint, one float, and a float a joint.
+/// By steps of 1e-7. The scratch list, a float a joint, ends equal to the
+/// joints; then one float, and a float a joint.
 #[cfg(feature = "objective")]
 pub fn gradient(
     given: Given,
@@ -500,7 +515,7 @@ pub fn gradient(
     )
 }
 
-/// The lists are those of `gradient`.
+/// By steps of 1e-6 of the whole objective; the lists are those of `gradient`.
 #[cfg(feature = "objective")]
 pub fn gradient_finite_diff(
     given: Given,
@@ -516,7 +531,7 @@ pub fn gradient_finite_diff(
     )
 }
 
-/// One float, a float a joint, and the record.
+/// What `gradient` answers, without scratch, and the record of the walks.
 #[cfg(feature = "objective")]
 pub fn gradient_one_block(
     given: Given,

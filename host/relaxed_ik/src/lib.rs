@@ -47,6 +47,7 @@
 
 #[allow(unsafe_code)]
 pub mod bytes;
+pub mod leaves;
 #[cfg(feature = "objective")]
 mod objective;
 mod refusal;
@@ -57,6 +58,9 @@ pub use refusal::Refusal;
 
 use bytes::{of_floats, of_floats_mut, of_u16s};
 use refusal::taken;
+
+/// The static library that the program is linked with: its name, length and sum.
+pub const LIBRARY: &str = env!("RELAXED_IK_LIBRARY");
 
 /// Floats a link: displacement, then offset w, i, j, k.
 pub const LINK_FLOATS: usize = 7;
@@ -77,8 +81,7 @@ pub struct Pose {
 impl Pose {
     /// The vector, rotated as the pose is, by the library's own rotation.
     pub fn rotate(&self, v: [f64; 3]) -> [f64; 3] {
-        let ([w, i, j, k], [x, y, z]) = (self.rotation, v);
-        [0, 1, 2].map(|part| bytes::rotate(w, i, j, k, x, y, z, part))
+        leaves::rotate(self.rotation, v)
     }
 
     /// Seven floats for each pose.

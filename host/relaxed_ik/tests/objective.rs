@@ -96,6 +96,7 @@ fn the_lowest_number_is_answered() {
 #[test]
 fn losses_at_their_centre() {
     assert_eq!(bytes::groove_loss(0.0, 0.0, 0.1, 10.0), -1.0);
+    assert_eq!(bytes::swamp_loss(0.0, -1.0, 1.0, 10.0, 10.0, 20), -1.0);
     assert_eq!(bytes::swamp_loss(0.0, -1.0, 1.0, 10.0, 10.0, 30), -1.0);
     assert_eq!(bytes::loss_limits(5.0, -999.0, 999.0), -1.0);
     assert_eq!(bytes::loss_position(0.0, 0.0), -1.0);

@@ -10,9 +10,9 @@ use reference::groove::objective_master::ObjectiveMaster;
 use reference::{refusals, sheet};
 use samples::{Chain, Sample};
 use sheet_text::{Text, PARTS};
+use std::fs;
 use std::path::Path;
 use std::process::ExitCode;
-use std::{env, fs};
 
 const USAGE: &str = "\
 sheets DIR [--check]
@@ -209,26 +209,7 @@ fn check(folder: &Path) -> Result<String, String> {
 }
 
 fn main() -> ExitCode {
-    let arguments: Vec<String> = env::args().skip(1).collect();
-    let words: Vec<&str> = arguments.iter().map(String::as_str).collect();
-    let done = match words[..] {
-        [folder] if !folder.starts_with('-') => write(Path::new(folder)),
-        [folder, "--check"] | ["--check", folder] => check(Path::new(folder)),
-        _ => {
-            eprintln!("{USAGE}");
-            return ExitCode::from(2);
-        }
-    };
-    match done {
-        Ok(line) => {
-            println!("{line}");
-            ExitCode::SUCCESS
-        }
-        Err(line) => {
-            println!("{line}");
-            ExitCode::FAILURE
-        }
-    }
+    command_line::write_or_check(USAGE, write, check)
 }
 
 #[cfg(test)]

@@ -18,11 +18,13 @@ use std::{env, fs, io};
 const USAGE: &str = "\
 sonde SHEET [--json] [--svg FILE]
 sonde --batch DIR [--json]
+sonde --version
 
   SHEET        the sheet to work out, - for the standard input
   --json       one line of JSON a sheet, for programs
   --svg FILE   draws the arm and its goals into FILE
   --batch DIR  every *.sheet of a folder, and a table of them
+  --version    the program's version, and the proved library it is linked with
 
 exit status: 0 worked out, and every filed figure agrees; 1 a filed figure
 differs (with --batch: a sheet is not good); 2 a file or the command line cannot
@@ -36,6 +38,7 @@ struct Options {
     svg: Option<String>,
     json: bool,
     help: bool,
+    version: bool,
 }
 
 fn options(mut arguments: impl Iterator<Item = String>) -> Result<Options, String> {
@@ -51,6 +54,7 @@ fn options(mut arguments: impl Iterator<Item = String>) -> Result<Options, Strin
             "--svg" => options.svg = Some(value()?),
             "--batch" => options.batch = Some(value()?),
             "--help" | "-h" => options.help = true,
+            "--version" => options.version = true,
             other if other.starts_with('-') && other != "-" => {
                 return Err(format!("unknown option: {other}"))
             }
@@ -59,7 +63,7 @@ fn options(mut arguments: impl Iterator<Item = String>) -> Result<Options, Strin
         }
     }
     match (&options.sheet, &options.batch) {
-        _ if options.help => Ok(options),
+        _ if options.help || options.version => Ok(options),
         (None, None) => Err("which sheet?".to_string()),
         (Some(_), Some(_)) => Err("a sheet or --batch, not both".to_string()),
         (None, Some(_)) if options.svg.is_some() => Err("--svg draws one sheet".to_string()),
@@ -99,6 +103,17 @@ fn check(path: &str) -> Outcome {
     }
 }
 
+/// Of the program, and what is known of the library: whether it has the objective
+/// is the program's own choice.
+fn version() -> String {
+    let objective = match work::HAS_OBJECTIVE {
+        true => "with the objective",
+        false => "without the objective",
+    };
+    let (own, library) = (env!("CARGO_PKG_VERSION"), relaxed_ik::LIBRARY);
+    format!("sonde {own}, {objective}\nlinked with {library}\n")
+}
+
 /// A reader that has gone away is no fault of ours.
 fn say(text: &str) {
     let _ = io::stdout().write_all(text.as_bytes());
@@ -136,6 +151,10 @@ fn main() -> ExitCode {
             say(&format!("{USAGE}\n"));
             return ExitCode::SUCCESS;
         }
+        Ok(options) if options.version => {
+            say(&version());
+            return ExitCode::SUCCESS;
+        }
         Ok(options) => options,
         Err(message) => {
             eprintln!("{message}\n\n{USAGE}");
@@ -167,6 +186,7 @@ mod tests {
         assert!(one.json && one.batch.is_none());
         assert_eq!(read("-").unwrap().sheet.as_deref(), Some("-"));
         assert_eq!(read("--batch d").unwrap().batch.as_deref(), Some("d"));
+        assert!(read("--version").unwrap().version);
     }
 
     #[test]

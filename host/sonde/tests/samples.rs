@@ -34,6 +34,29 @@ fn field(json: &str, name: &str) -> String {
     json[at..].split([',', '}']).next().unwrap().to_string()
 }
 
+/// The version is the package's, and the library the one that was linked, by
+/// length and sum.
+#[test]
+fn the_version_names_the_library() {
+    let output = sonde(&["--version"]);
+    assert_eq!(output.status.code(), Some(0));
+    let library = Path::new(env!("CARGO_MANIFEST_DIR")).join("../../target/staticlib/libexports.a");
+    let bytes = fs::read(library).unwrap();
+    let sum = bytes.iter().fold(0xcbf2_9ce4_8422_2325, |sum: u64, &byte| {
+        (sum ^ u64::from(byte)).wrapping_mul(0x0000_0100_0000_01b3)
+    });
+    let with = match cfg!(feature = "objective") {
+        true => "with",
+        false => "without",
+    };
+    let expected = format!(
+        "sonde {}, {with} the objective\nlinked with libexports.a, {} bytes, FNV-1a {sum:016x}\n",
+        env!("CARGO_PKG_VERSION"),
+        bytes.len()
+    );
+    assert_eq!(said(&output), expected);
+}
+
 #[test]
 fn good_sheets_agree() {
     for path in sheets("good") {

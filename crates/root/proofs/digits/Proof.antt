@@ -1,4 +1,4 @@
--- `root::digits` meets its contract, whatever the guess: a guess that passes the test is right. Assumes nothing.
+-- `root::digits` meets its contract, whatever the guess: a guess that passes the test is right.
 use borrow.Author.Needs.{needs}
 use Rattle.root.proofs.Special.{no-nan}
 use Rattle.root.proofs.digits.Statement.{statement}

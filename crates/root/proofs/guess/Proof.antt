@@ -1,4 +1,4 @@
--- `root::guess`: the pattern that it makes is a number's. Assumes nothing.
+-- `root::guess`: the pattern that it makes is a number's.
 use borrow.Author.Needs.{needs}
 use Prim.Native.Nat.{_/_, _^_}
 use native.Mathlib.Nat.{div-le-self}

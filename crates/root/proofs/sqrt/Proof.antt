@@ -1,4 +1,4 @@
--- `root::sqrt` meets its contract: the tests leave a number above zero, whose root `pattern` makes. Assumes nothing.
+-- `root::sqrt` meets its contract: the tests leave a number above zero, whose root `pattern` makes.
 use mathlib.Core.Path.{_≡_, sym, subst}
 use lib.Dec.{T}
 use lib.Ieee.{Float, binary64, fits}

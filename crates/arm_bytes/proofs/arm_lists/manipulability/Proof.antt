@@ -1,4 +1,4 @@
--- `manipulability` meets its contract: a refusal writes nothing; else the output is the value's bytes. Assumes nothing.
+-- `manipulability` meets its contract: a refusal writes nothing; else the output is the value's bytes.
 use mathlib.Core.Path.{_≡_, refl, sym, ap, _∙_, subst}
 use mathlib.Core.List.{List, [], _∷_}
 use Prim.Native.Nat.{ℕ}
@@ -7,11 +7,10 @@ use denote.Ref.{now}
 use lib.Ieee.{Float}
 use lib.ListN.{length}
 use Rattle.lists.specs.Splice.{splice}
-use Rattle.sheet.specs.Chain.{joints, joint-last}
 use Rattle.spacetime.specs.Walk.{poseOf}
 use Rattle.manipulability.specs.Jacobian.{manipulabilityOf}
 use Rattle.refusals.specs.Lowest.{firstOf, first-zero, first-some, first-none}
-use Rattle.refusals.specs.Refusal.{linksOf, blockRefusal, roomRefusal}
+use Rattle.refusals.specs.Refusal.{linksOf, roomRefusal}
 use Rattle.calls.specs.Arms.{Accepted, taken, refused}
 use Rattle.calls.specs.Answer.{value-taken}
 use Rattle.lent_bytes.specs.Lent.{roomIn, bytesOf}
@@ -35,18 +34,13 @@ good c = sheet-accepted (sheet (S c)) (sym (c .before .load-refusal .ensures) �
 counted : (c : tie.After-links) → Accepted (now (c .links .result)) (now (S (c .before) .args .codes)) (now (S (c .before) .args .floats))
 counted c = subst (λ (ns : List ℕ). Accepted ns (now (S (c .before) .args .codes)) (now (S (c .before) .args .floats))) (sym (c .links .ensures)) (good (c .before))
 
-seven : (c : tie.After-block-refusal) → c .block-refusal .result ≡ blockRefusal (joints (now (S (c .before .before .before) .args .codes))) (now (S (c .before .before .before) .args .joints))
-seven c =
-    let a = S (c .before .before .before) .args in
-    c .block-refusal .ensures ∙ ap (λ (n : ℕ). blockRefusal n (now (a .joints))) (c .before .joint-number .ensures ∙ joint-last (now (a .codes)))
-
 number : (c : tie.After-first-of) → c .first-of .result
-    ≡ manipulabilityNumber (sheet (S (c .before .before .before .before .before .before))) (now (S (c .before .before .before .before .before .before) .args .joints)) (roomIn (length (now (S (c .before .before .before .before .before .before) .args .value))))
+    ≡ manipulabilityNumber (sheet (S (c .before .before .before .before .before))) (now (S (c .before .before .before .before .before) .args .joints)) (roomIn (length (now (S (c .before .before .before .before .before) .args .value))))
 unfolding manipulabilityNumber
 number c =
-    let e = c .before .before .before .before .before .before in
+    let e = c .before .before .before .before .before in
     c .first-of .ensures
-    ∙ same-two firstOf (seven (c .before .before .before)) (c .before .room-refusal .ensures ∙ ap (roomRefusal 1) (c .before .before .room .ensures))
+    ∙ same-two firstOf (c .before .before .before .block-refusal .ensures) (c .before .room-refusal .ensures ∙ ap (roomRefusal 1) (c .before .before .room .ensures))
     ∙ sym (first-zero _ _ (sym (e .before .load-refusal .ensures) ∙ e .if1 .left))
 
 -- what an accepted call knows: the block is good, and the output has room
@@ -65,9 +59,6 @@ returns c =
 links-requires : tie.Need-links-requires
 links-requires c κs = search needs
 
-joint-number-requires : tie.Need-joint-number-requires
-joint-number-requires c κs = search needs
-
 block-refusal-requires : tie.Need-block-refusal-requires
 block-refusal-requires c κs = search needs
 
@@ -84,7 +75,7 @@ returns-2 : tie.Need-returns-2
 returns-2 c = (number (c .before), sym (refused (c .before .first-of .result) _ _ (c .if2 .taken)))
 
 manipulability-requires : tie.Need-manipulability-requires
-manipulability-requires c κs = counted (c .before .before .before .before .before .before)
+manipulability-requires c κs = counted (c .before .before .before .before .before)
 
 value-requires : tie.Need-value-requires
 value-requires c κs = search needs
@@ -95,7 +86,7 @@ slice-aggregate-put-floats c = search needs
 put-floats-requires : tie.Need-put-floats-requires
 put-floats-requires c κs =
     let e = c .before .before .before .before in
-    omega (arith, bytes-fit _ (length (now (S (e .before .before .before .before .before .before .before) .args .value))) _ (e .before .before .before .room .ensures) (sym (e .before .before .room-refusal .ensures) ∙ passed e .1))
+    omega (arith, bytes-fit _ (length (now (S (e .before .before .before .before .before .before) .args .value))) _ (e .before .before .before .room .ensures) (sym (e .before .before .room-refusal .ensures) ∙ passed e .1))
 
 same-length : tie.Need-same-length
 same-length c = search needs
@@ -104,10 +95,10 @@ returns-3 : tie.Need-returns-3
 unfolding manipulabilityValue
 returns-3 c =
     let e = c .before .before .before .before .before .before .before in
-    let l = e .before .before .before .before .before .before in
+    let l = e .before .before .before .before .before in
     let a = S (l .before) .args in
     let m = c .before .before .before .before .before .before .manipulability .ensures in
-    let zero = m .0 ∙ sym (seven (e .before .before .before .before)) ∙ passed e .0 in
+    let zero = m .0 ∙ sym (e .before .before .before .before .block-refusal .ensures) ∙ passed e .0 in
     let v = c .before .before .before .before .before .value .ensures ∙ m .1 .0 ∙ value-taken _ _ zero
     ∙ ap (λ (ns : List ℕ). manipulabilityOf (poseOf ns (now (a .codes)) (now (a .floats)) (now (a .joints))) ns (now (a .codes))) (l .links .ensures) in (
       sym (sym (number (e .before)) ∙ e .if2 .left),
@@ -121,7 +112,6 @@ manipulability-spec =
     load-refusal-requires
     returns
     links-requires
-    joint-number-requires
     block-refusal-requires
     room-requires
     room-refusal-requires

@@ -1,4 +1,4 @@
--- `put_four` meets its contract: one block behind the other. Assumes nothing.
+-- `put_four` meets its contract: one block behind the other.
 use mathlib.Core.Path.{_≡_, refl, ap, _∙_}
 use mathlib.Core.List.{List, _++_}
 use Prim.Native.Nat.{ℕ, _*_}

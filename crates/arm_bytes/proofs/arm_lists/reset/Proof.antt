@@ -1,7 +1,7 @@
--- `reset` meets its contract: a refusal writes nothing; else the outputs are the bytes of four blocks and of the end poses. Assumes nothing.
+-- `reset` meets its contract: a refusal writes nothing; else the outputs are the bytes of four blocks and of the end poses.
 use mathlib.Core.Path.{_≡_, refl, sym, ap, _∙_, subst}
 use mathlib.Core.List.{List}
-use Prim.Native.Nat.{ℕ, _*_}
+use Prim.Native.Nat.{ℕ}
 use native.Mathlib.Omega.{arith}
 use denote.Ref.{now}
 use lib.Ieee.{Float}
@@ -9,14 +9,14 @@ use lib.ListN.{length}
 use Rattle.lists.specs.Splice.{splice}
 use Rattle.spacetime.specs.Walk.{poseOf}
 use Rattle.spacetime.specs.Frames.{endsOf}
+use Rattle.refusals.specs.Lengths.{ends-most}
 use Rattle.refusals.specs.Lowest.{firstOf, first-zero, first-some, first-none}
 use Rattle.refusals.specs.Refusal.{linksOf, roomRefusal}
 use Rattle.calls.specs.Arms.{Accepted, taken, refused}
-use Rattle.sheet.specs.Chain.{joints, joint-last}
 use Rattle.refusals.specs.Passed.{block-passed}
 use Rattle.calls.specs.Frames.{poseRefusal, pose-passed}
 use Rattle.lent_bytes.specs.Lent.{Front, roomIn, bytesOf}
-use Rattle.lent_bytes.specs.SheetLists.{SheetLists, sheetWith}
+use Rattle.lent_bytes.specs.SheetLists.{SheetLists, sheetWith, same-two}
 use Rattle.arm_bytes.specs.ArmCalls.{resetNumber, endPoses}
 use Rattle.arm_bytes.specs.ArmLaws.{sheet-accepted, pose-number, bytes-fit, end-poses-length, made}
 use borrow.Author.Needs.{needs}
@@ -36,39 +36,37 @@ good c = sheet-accepted (sheet (S c)) (sym (c .before .load-refusal .ensures) �
 counted : (c : tie.After-links) → Accepted (now (c .links .result)) (now (S (c .before) .args .codes)) (now (S (c .before) .args .floats))
 counted c = subst (λ (ns : List ℕ). Accepted ns (now (S (c .before) .args .codes)) (now (S (c .before) .args .floats))) (sym (c .links .ensures)) (good (c .before))
 
-joined : (c : tie.After-joint-number) → c .joint-number .result ≡ joints (now (S (c .before .before) .args .codes))
-joined c = c .joint-number .ensures ∙ joint-last (now (S (c .before .before) .args .codes))
-
-number : (c : tie.After-first-of2) → c .first-of2 .result ≡ resetNumber (sheet (S (c .before .before .before .before .before .before .before .before .before .before .before))) (now (S (c .before .before .before .before .before .before .before .before .before .before .before) .args .joints)) (roomIn (length (now (S (c .before .before .before .before .before .before .before .before .before .before .before) .args .history)))) (roomIn (length (now (S (c .before .before .before .before .before .before .before .before .before .before .before) .args .ends))))
+number : (c : tie.After-first-of2) → c .first-of2 .result ≡ resetNumber (sheet (S (c .before .before .before .before .before .before .before .before .before .before .before .before))) (now (S (c .before .before .before .before .before .before .before .before .before .before .before .before) .args .joints)) (roomIn (length (now (S (c .before .before .before .before .before .before .before .before .before .before .before .before) .args .history)))) (roomIn (length (now (S (c .before .before .before .before .before .before .before .before .before .before .before .before) .args .ends))))
 unfolding resetNumber
 number c =
-    let e = c .before .before .before .before .before .before .before .before .before .before .before in
-    let l = c .before .before .before .before .before .before .before .before .before .before in
+    let e = c .before .before .before .before .before .before .before .before .before .before .before .before in
+    let l = c .before .before .before .before .before .before .before .before .before .before .before in
     let a = S e .args in
     let n = roomIn (length (now (a .ends))) in
     let h = roomIn (length (now (a .history))) in
     let pose = c .before .first-of .ensures
-    ∙ pose-number (now (l .links .result)) (now (a .codes)) (now (a .floats)) (now (a .joints)) n _ _ (counted l) (c .before .before .before .before .before .before .before .pose .ensures .0) (c .before .before .before .before .room-refusal .ensures ∙ ap (roomRefusal _) (c .before .before .before .before .before .room .ensures))
+    ∙ pose-number (now (l .links .result)) (now (a .codes)) (now (a .floats)) (now (a .joints)) n _ _ (counted l) (c .before .before .before .before .before .before .before .before .before .pose .ensures .0) (c .before .before .before .before .before .room-refusal .ensures ∙ same-two roomRefusal (c .before .before .before .before .before .before .before .ends-length .ensures) (c .before .before .before .before .before .before .room .ensures))
     ∙ ap (λ (ns : List ℕ). poseRefusal ns (now (a .codes)) (now (a .joints)) n) (l .links .ensures) in
-    let room = c .before .before .room-refusal2 .ensures ∙ ap (roomRefusal _) (c .before .before .before .room2 .ensures) ∙ ap (λ (k : ℕ). roomRefusal (4 * k) h) (joined (c .before .before .before .before .before .before .before .before .before)) in
+    let room = c .before .before .room-refusal2 .ensures ∙ same-two roomRefusal (c .before .before .before .before .history-length .ensures) (c .before .before .before .room2 .ensures) in
     c .first-of2 .ensures ∙ ap (λ (k : ℕ). firstOf k (c .before .before .room-refusal2 .result)) pose ∙ ap (firstOf (poseRefusal (linksOf (now (a .sizes))) (now (a .codes)) (now (a .joints)) n)) room
     ∙ sym (first-zero _ _ (sym (e .before .load-refusal .ensures) ∙ e .if1 .left))
 
 -- what an accepted call knows: the walk was accepted, and both outputs have room
-passed : (c : tie.Else2) → (c .before .before .before .before .before .before .before .before .pose .result ≡ 0) × (c .before .before .before .before .before .room-refusal .result ≡ 0) × (c .before .before .before .room-refusal2 .result ≡ 0)
+passed : (c : tie.Else2) → (c .before .before .before .before .before .before .before .before .before .before .pose .result ≡ 0) × (c .before .before .before .before .before .before .room-refusal .result ≡ 0) × (c .before .before .before .room-refusal2 .result ≡ 0)
 passed c =
     let a = first-none _ _ (sym (c .before .first-of2 .ensures) ∙ c .if2 .left) in
     let b = first-none _ _ (sym (c .before .before .first-of .ensures) ∙ a .0) in
     (b .0, b .1, a .1)
 
-posed : (c : tie.Else2) → Front (endPoses (sheet (S (c .before .before .before .before .before .before .before .before .before .before .before .before))) (now (S (c .before .before .before .before .before .before .before .before .before .before .before .before) .args .joints))) (c .before .before .before .before .before .before .before .before .pose .last .1 .1 .1 .1 .0) (7 * length (now (c .before .before .before .before .before .before .before .before .before .before .before .links .result)))
+posed : (c : tie.Else2) → Front (endPoses (sheet (S (c .before .before .before .before .before .before .before .before .before .before .before .before .before))) (now (S (c .before .before .before .before .before .before .before .before .before .before .before .before .before) .args .joints))) (c .before .before .before .before .before .before .before .before .before .before .pose .last .1 .1 .1 .1 .0) (c .before .before .before .before .before .before .before .before .ends-length .result)
 unfolding endPoses
 posed c =
-    let l = c .before .before .before .before .before .before .before .before .before .before .before in
-    let w = c .before .before .before .before .before .before .before .before .pose in
-    let a = S (c .before .before .before .before .before .before .before .before .before .before .before .before) .args in
-    subst (λ (ns : List ℕ). Front (endsOf ns (poseOf ns (now (a .codes)) (now (a .floats)) (now (a .joints)))) (w .last .1 .1 .1 .1 .0) (7 * length (now (l .links .result)))) (l .links .ensures)
-    (made (w .result) _ (w .last .1 .1 .1 .1 .0) _ _ (passed c .0) (w .ensures .1) (end-poses-length _ _) (omega (arith, w .kept .1 .1 .1 .1 .0, counted l .chains .few)))
+    let l = c .before .before .before .before .before .before .before .before .before .before .before .before in
+    let w = c .before .before .before .before .before .before .before .before .before .before .pose in
+    let a = S (c .before .before .before .before .before .before .before .before .before .before .before .before .before) .args in
+    subst (λ (ns : List ℕ). Front (endsOf ns (poseOf ns (now (a .codes)) (now (a .floats)) (now (a .joints)))) (w .last .1 .1 .1 .1 .0) (c .before .before .before .before .before .before .before .before .ends-length .result)) (l .links .ensures)
+    (made (w .result) _ (w .last .1 .1 .1 .1 .0) _ _ (passed c .0) (w .ensures .1) (end-poses-length _ _ ∙ sym (c .before .before .before .before .before .before .before .before .ends-length .ensures))
+    (omega (arith, w .kept .1 .1 .1 .1 .0, c .before .before .before .before .before .before .before .before .ends-length .ensures, ends-most (now (l .links .result)) (counted l .chains .few))))
 
 load-refusal-requires : tie.Need-load-refusal-requires
 load-refusal-requires c κs = search needs
@@ -82,17 +80,14 @@ returns c =
 links-requires : tie.Need-links-requires
 links-requires c κs = search needs
 
-joint-number-requires : tie.Need-joint-number-requires
-joint-number-requires c κs = search needs
-
 slice-aggregate-pose : tie.Need-slice-aggregate-pose
 slice-aggregate-pose c = search needs
 
 pose-requires : tie.Need-pose-requires
-pose-requires c κs = counted (c .before .before)
+pose-requires c κs = counted (c .before)
 
-mul-np : tie.Need-mul-np
-mul-np c = omega (arith, counted (c .before .before .before .before) .chains .few)
+ends-length-requires : tie.Need-ends-length-requires
+ends-length-requires c κs = counted (c .before .before .before) .chains .few
 
 room-requires : tie.Need-room-requires
 room-requires c κs = search needs
@@ -100,8 +95,8 @@ room-requires c κs = search needs
 room-refusal-requires : tie.Need-room-refusal-requires
 room-refusal-requires c κs = search needs
 
-mul-room-refusal : tie.Need-mul-room-refusal
-mul-room-refusal c = omega (arith, joined (c .before .before .before .before .before), good (c .before .before .before .before .before .before .before) .few)
+history-length-requires : tie.Need-history-length-requires
+history-length-requires c κs = search needs
 
 room-requires-2 : tie.Need-room-requires-2
 room-requires-2 c κs = search needs
@@ -123,9 +118,9 @@ returns-2 c =
 put-four-requires : tie.Need-put-four-requires
 put-four-requires c κs =
     let e = c .before in
-    let s = S (e .before .before .before .before .before .before .before .before .before .before .before .before) in
-    let x = block-passed _ _ (pose-passed _ _ (now (s .args .joints)) _ (sym (e .before .before .before .before .before .before .before .before .pose .ensures .0) ∙ passed e .0) .0) in
-    omega (arith, x, joined (e .before .before .before .before .before .before .before .before .before .before), bytes-fit _ (length (now (s .args .history))) _ (e .before .before .before .before .room2 .ensures) (sym (e .before .before .before .room-refusal2 .ensures) ∙ passed e .2))
+    let s = S (e .before .before .before .before .before .before .before .before .before .before .before .before .before) in
+    let x = block-passed _ _ (pose-passed _ _ (now (s .args .joints)) _ (sym (e .before .before .before .before .before .before .before .before .before .before .pose .ensures .0) ∙ passed e .0) .0) in
+    omega (arith, x, e .before .before .before .before .before .history-length .ensures, bytes-fit _ (length (now (s .args .history))) _ (e .before .before .before .before .room2 .ensures) (sym (e .before .before .before .room-refusal2 .ensures) ∙ passed e .2))
 
 array-share-prefix-p : tie.Need-array-share-prefix-p
 array-share-prefix-p c = posed (c .before .before .before .before) .within
@@ -137,7 +132,7 @@ put-floats-requires : tie.Need-put-floats-requires
 put-floats-requires c κs =
     let e = c .before .before .before .before .before .before in
     let f = posed e in
-    omega (arith, f .sized, bytes-fit _ (length (now (S (e .before .before .before .before .before .before .before .before .before .before .before .before) .args .ends))) _ (e .before .before .before .before .before .before .room .ensures) (sym (e .before .before .before .before .before .room-refusal .ensures) ∙ passed e .1))
+    omega (arith, f .sized, bytes-fit _ (length (now (S (e .before .before .before .before .before .before .before .before .before .before .before .before .before) .args .ends))) _ (e .before .before .before .before .before .before .before .room .ensures) (sym (e .before .before .before .before .before .before .room-refusal .ensures) ∙ passed e .1))
 
 same-length : tie.Need-same-length
 same-length c = search needs
@@ -148,7 +143,7 @@ same-length-2 c = search needs
 returns-3 : tie.Need-returns-3
 returns-3 c =
     let e = c .before .before .before .before .before .before .before .before .before in
-    let a = S (e .before .before .before .before .before .before .before .before .before .before .before .before) .args in (
+    let a = S (e .before .before .before .before .before .before .before .before .before .before .before .before .before) .args in (
       sym (sym (number (e .before)) ∙ e .if2 .left),
       (
         c .before .before .before .before .before .before .before .put-four .ensures ∙ sym (taken 0 _ _ refl),
@@ -163,13 +158,12 @@ reset-spec =
     load-refusal-requires
     returns
     links-requires
-    joint-number-requires
     slice-aggregate-pose
     pose-requires
-    mul-np
+    ends-length-requires
     room-requires
     room-refusal-requires
-    mul-room-refusal
+    history-length-requires
     room-requires-2
     room-refusal-requires-2
     first-of-requires

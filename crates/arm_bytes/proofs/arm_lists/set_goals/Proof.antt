@@ -1,4 +1,4 @@
--- `set_goals` meets its contract: the number of loading, then the goals'. Assumes nothing.
+-- `set_goals` meets its contract: the number of loading, then the goals'.
 use mathlib.Core.Path.{sym, _∙_}
 use native.Mathlib.Omega.{arith}
 use borrow.Author.Needs.{needs}

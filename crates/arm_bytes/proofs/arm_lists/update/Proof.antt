@@ -1,19 +1,18 @@
--- `update` meets its contract: a refusal writes nothing; else the output is the bytes of the new block and of the first three. Assumes nothing.
+-- `update` meets its contract: a refusal writes nothing; else the output is the bytes of the new block and of the first three.
 use mathlib.Core.Path.{_≡_, refl, sym, ap, _∙_}
-use mathlib.Core.List.{List, _++_}
+use mathlib.Core.List.{List}
 use Prim.Native.Nat.{ℕ, _*_, _≤_}
 use native.Mathlib.Omega.{arith}
 use denote.Ref.{now}
 use lib.ListN.{length, take}
 use Rattle.lists.specs.Splice.{splice}
 use lib.Seq.{length-take-le}
-use Rattle.sheet.specs.Chain.{joints, joint-last}
 use Rattle.refusals.specs.Lowest.{firstOf, first-zero, first-some, first-none}
-use Rattle.refusals.specs.Refusal.{linksOf, blockRefusal, roomRefusal}
-use Rattle.refusals.specs.Passed.{block-passed}
+use Rattle.refusals.specs.Refusal.{linksOf, roomRefusal}
+use Rattle.refusals.specs.Passed.{block-passed, history-passed}
 use Rattle.calls.specs.Arms.{Accepted, taken, refused}
 use Rattle.lent_bytes.specs.Lent.{roomIn, bytesOf, bytes-then}
-use Rattle.lent_bytes.specs.SheetLists.{SheetLists, sheetWith}
+use Rattle.lent_bytes.specs.SheetLists.{SheetLists, sheetWith, same-two}
 use Rattle.arm_bytes.specs.ArmCalls.{updateNumber, updatedBlocks}
 use Rattle.arm_bytes.specs.ArmLaws.{sheet-accepted, bytes-fit}
 use borrow.Author.Needs.{needs}
@@ -30,22 +29,13 @@ sheet s = sheetWith (now (s .args .sizes)) (now (s .args .codes)) (now (s .args 
 good : (c : tie.Else1) → Accepted (linksOf (now (S c .args .sizes))) (now (S c .args .codes)) (now (S c .args .floats))
 good c = sheet-accepted (sheet (S c)) (sym (c .before .load-refusal .ensures) ∙ c .if1 .left)
 
-joined : (c : tie.After-joint-number) → c .joint-number .result ≡ joints (now (S (c .before) .args .codes))
-joined c = c .joint-number .ensures ∙ joint-last (now (S (c .before) .args .codes))
-
 number : (c : tie.After-first-of2) → c .first-of2 .result ≡ updateNumber (sheet (S (c .before .before .before .before .before .before .before))) (now (S (c .before .before .before .before .before .before .before) .args .history)) (now (S (c .before .before .before .before .before .before .before) .args .joints)) (roomIn (length (now (S (c .before .before .before .before .before .before .before) .args .out))))
 unfolding updateNumber
 number c =
     let e = c .before .before .before .before .before .before .before in
-    let a = S e .args in
-    let x = now (a .joints) in
-    let h = now (a .history) in
-    let n = c .before .before .before .before .before .before .joint-number .result in
-    let seven = c .before .first-of .ensures ∙ ap (λ (k : ℕ). firstOf k (c .before .before .before .before .block-refusal2 .result)) (c .before .before .before .before .before .block-refusal .ensures) ∙ ap (firstOf (blockRefusal n x)) (c .before .before .before .before .block-refusal2 .ensures) in
-    let nine = c .before .before .room-refusal .ensures ∙ ap (roomRefusal (4 * n)) (c .before .before .before .room .ensures) in
-    c .first-of2 .ensures ∙ ap (λ (k : ℕ). firstOf k (c .before .before .room-refusal .result)) seven ∙ ap (firstOf (firstOf (blockRefusal n x) (blockRefusal (4 * n) h))) nine
-    ∙ ap (λ (m : ℕ). firstOf (firstOf (blockRefusal m x) (blockRefusal (4 * m) h)) (roomRefusal (4 * m) (roomIn (length (now (a .out)))))) (joined (c .before .before .before .before .before .before))
-    ∙ sym (first-zero _ _ (sym (e .before .load-refusal .ensures) ∙ e .if1 .left))
+    let seven = c .before .first-of .ensures ∙ same-two firstOf (c .before .before .before .before .before .before .block-refusal .ensures) (c .before .before .before .before .before .history-refusal .ensures) in
+    let nine = c .before .before .room-refusal .ensures ∙ same-two roomRefusal (c .before .before .before .before .history-length .ensures) (c .before .before .before .room .ensures) in
+    c .first-of2 .ensures ∙ same-two firstOf seven nine ∙ sym (first-zero _ _ (sym (e .before .load-refusal .ensures) ∙ e .if1 .left))
 
 -- a number that is not 0 is a refusal, and only 0 goes on
 stopped : (c : tie.Then2) → c .before .first-of2 .result ≡ 0 → ⊥
@@ -55,19 +45,18 @@ goes-on : (c : tie.Else2) → c .before .first-of2 .result ≡ 0
 goes-on c = omega (arith, c .if2 .left)
 
 -- what an accepted call knows of the lengths
-sized : (c : tie.Else2) → (length (now (S (c .before .before .before .before .before .before .before .before) .args .joints)) ≡ c .before .before .before .before .before .before .before .joint-number .result)
-    × (length (now (S (c .before .before .before .before .before .before .before .before) .args .history)) ≡ 4 * c .before .before .before .before .before .before .before .joint-number .result)
-    × (8 * (4 * c .before .before .before .before .before .before .before .joint-number .result) ≤ length (now (S (c .before .before .before .before .before .before .before .before) .args .out)))
+sized : (c : tie.Else2) → (length (now (S (c .before .before .before .before .before .before .before .before) .args .joints)) ≤ 16)
+    × (length (now (S (c .before .before .before .before .before .before .before .before) .args .history)) ≡ 4 * length (now (S (c .before .before .before .before .before .before .before .before) .args .joints)))
+    × (8 * (4 * length (now (S (c .before .before .before .before .before .before .before .before) .args .joints))) ≤ length (now (S (c .before .before .before .before .before .before .before .before) .args .out)))
 sized c =
     let a = first-none _ _ (sym (c .before .first-of2 .ensures) ∙ goes-on c) in
-    let b = first-none _ _ (sym (c .before .before .first-of .ensures) ∙ a .0) in (
-      block-passed _ _ (sym (c .before .before .before .before .before .before .block-refusal .ensures) ∙ b .0),
-      block-passed _ _ (sym (c .before .before .before .before .before .block-refusal2 .ensures) ∙ b .1),
-      bytes-fit _ _ _ (c .before .before .before .before .room .ensures) (sym (c .before .before .before .room-refusal .ensures) ∙ a .1),
-    )
+    let b = first-none _ _ (sym (c .before .before .first-of .ensures) ∙ a .0) in
+    let x = block-passed _ _ (sym (c .before .before .before .before .before .before .before .block-refusal .ensures) ∙ b .0) in
+    let f = bytes-fit _ (length (now (S (c .before .before .before .before .before .before .before .before) .args .out))) _ (c .before .before .before .before .room .ensures) (sym (c .before .before .before .room-refusal .ensures) ∙ a .1) in
+    (omega (arith, x, good (c .before .before .before .before .before .before .before .before) .few), history-passed _ _ (sym (c .before .before .before .before .before .before .history-refusal .ensures) ∙ b .1) ∙ omega (arith, x), omega (arith, f, x, c .before .before .before .before .before .history-length .ensures))
 
-kept : (c : tie.Else2) → length (take (3 * c .before .before .before .before .before .before .before .joint-number .result) (now (S (c .before .before .before .before .before .before .before .before) .args .history))) ≡ 3 * c .before .before .before .before .before .before .before .joint-number .result
-kept c = length-take-le (3 * c .before .before .before .before .before .before .before .joint-number .result) (now (S (c .before .before .before .before .before .before .before .before) .args .history)) (omega (arith, sized c))
+kept : (c : tie.Else2) → length (take (3 * length (now (S (c .before .before .before .before .before .before .before .before) .args .joints))) (now (S (c .before .before .before .before .before .before .before .before) .args .history))) ≡ 3 * length (now (S (c .before .before .before .before .before .before .before .before) .args .joints))
+kept c = length-take-le (3 * length (now (S (c .before .before .before .before .before .before .before .before) .args .joints))) (now (S (c .before .before .before .before .before .before .before .before) .args .history)) (omega (arith, sized c))
 
 load-refusal-requires : tie.Need-load-refusal-requires
 load-refusal-requires c κs = search needs
@@ -78,20 +67,14 @@ returns c =
     let e = c .before .load-refusal .ensures in
     (sym (first-some _ _ (λ z. c .if1 .taken (e ∙ z)) ∙ sym e), sym (refused (c .before .load-refusal .result) _ _ (c .if1 .taken)))
 
-joint-number-requires : tie.Need-joint-number-requires
-joint-number-requires c κs = search needs
-
 block-refusal-requires : tie.Need-block-refusal-requires
 block-refusal-requires c κs = search needs
 
-mul-block-refusal : tie.Need-mul-block-refusal
-mul-block-refusal c = omega (arith, joined (c .before), good (c .before .before) .few)
+history-refusal-requires : tie.Need-history-refusal-requires
+history-refusal-requires c κs = search needs
 
-block-refusal-requires-2 : tie.Need-block-refusal-requires-2
-block-refusal-requires-2 c κs = search needs
-
-mul-room-refusal : tie.Need-mul-room-refusal
-mul-room-refusal c = omega (arith, joined (c .before .before), good (c .before .before .before) .few)
+history-length-requires : tie.Need-history-length-requires
+history-length-requires c κs = search needs
 
 room-requires : tie.Need-room-requires
 room-requires c κs = search needs
@@ -111,7 +94,7 @@ returns-2 c =
     (number w, sym (refused (w .first-of2 .result) _ _ (stopped c)))
 
 mul-kept : tie.Need-mul-kept
-mul-kept c = omega (arith, joined (c .before .before .before .before .before .before .before), good (c .before .before .before .before .before .before .before .before) .few)
+mul-kept c = omega (arith, sized c)
 
 put-floats-requires : tie.Need-put-floats-requires
 put-floats-requires c κs = omega (arith, sized (c .before))
@@ -120,7 +103,7 @@ slice-aggregate-put-floats : tie.Need-slice-aggregate-put-floats
 slice-aggregate-put-floats c = sym (kept (c .before .before .before .before .before))
 
 mul-put-floats : tie.Need-mul-put-floats
-mul-put-floats c = omega (arith, joined (c .before .before .before .before .before .before .before .before .before .before .before .before), good (c .before .before .before .before .before .before .before .before .before .before .before .before .before) .few)
+mul-put-floats c = omega (arith, sized (c .before .before .before .before .before))
 
 put-floats-requires-2 : tie.Need-put-floats-requires-2
 put-floats-requires-2 c κs =
@@ -135,7 +118,7 @@ unfolding updatedBlocks
 returns-3 c =
     let e = c .before .before .before .before .before .before .before .before .before in
     let a = S (e .before .before .before .before .before .before .before .before) .args in
-    let n = e .before .before .before .before .before .before .before .joint-number .result in
+    let n = length (now (a .joints)) in
     let o = now (a .out) in
     let x = now (a .joints) in
     let h = now (a .history) in
@@ -143,7 +126,7 @@ returns-3 c =
       sym (sym (number (e .before)) ∙ goes-on e),
       c .before .before .put-floats2 .ensures ∙ ap (λ (y : List ℕ). splice y (8 * n) (bytesOf (take (3 * n) h))) (c .before .before .before .before .before .before .before .put-floats .ensures)
           ∙ bytes-then o x (take (3 * n) h) (8 * n) (omega (arith, l)) (omega (arith, l))
-          ∙ ap (λ (m : ℕ). splice o 0 (bytesOf (x ++ take (3 * m) h))) (sym (l .0)) ∙ sym (taken 0 _ _ refl),
+          ∙ sym (taken 0 _ _ refl),
     )
 
 pub update-spec : {M : Type 1} → statement M
@@ -152,11 +135,9 @@ update-spec =
     (tie.spec
     load-refusal-requires
     returns
-    joint-number-requires
     block-refusal-requires
-    mul-block-refusal
-    block-refusal-requires-2
-    mul-room-refusal
+    history-refusal-requires
+    history-length-requires
     room-requires
     room-refusal-requires
     first-of-requires

@@ -1,4 +1,4 @@
--- `value` meets its contract: case by case. Assumes nothing.
+-- `value` meets its contract: case by case.
 use Rattle.standins.specs.Num.{no-number}
 use borrow.Author.Needs.{needs}
 use Rattle.calls.proofs.answer.value.Statement.{statement}

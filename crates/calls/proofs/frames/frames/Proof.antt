@@ -1,12 +1,12 @@
--- `frames` meets its contract: a refusal writes nothing; else the lists are made of the walk's poses. Assumes nothing.
+-- `frames` meets its contract: a refusal writes nothing; else the lists are made of the walk's poses.
 use mathlib.Core.Path.{_≡_, refl, sym, ap, _∙_}
-use Prim.Native.Nat.{_+_, _*_, _≤_}
+use Prim.Native.Nat.{_≤_}
 use native.Mathlib.Omega.{arith}
 use denote.Ref.{now}
 use lib.ListN.{length}
 use Rattle.lists.specs.Splice.{splice}
-use Rattle.sheet.specs.Chain.{joints}
 use Rattle.spacetime.specs.Frames.{positions-ext, rotations-ext}
+use Rattle.refusals.specs.Lengths.{positionsLength, rotationsLength, positions-sum, rotations-sum}
 use Rattle.refusals.specs.Refusal.{blockRefusal}
 use Rattle.calls.specs.Arms.{sheet-of, walked, taken, refused}
 use Rattle.calls.specs.Frames.{framesRefusal, frames-passed}
@@ -20,9 +20,9 @@ S c = c .before .before .before .before .before .before .before .before
 number : (c : tie.Else1) → framesRefusal (now (S c .args .sizes)) (now (S c .args .codes)) (now (S c .args .block)) (length (now (S c .args .positions))) (length (now (S c .args .rotations))) ≡ 0
 number c = sym (c .before .frames-refusal .ensures) ∙ c .if1 .left
 
-passed : (c : tie.Else1) → (blockRefusal (joints (now (S c .args .codes))) (now (S c .args .block)) ≡ 0)
-    × (3 * (length (now (S c .args .codes)) + length (now (S c .args .sizes))) ≤ length (now (S c .args .positions)))
-    × (4 * (length (now (S c .args .codes)) + 2 * length (now (S c .args .sizes))) ≤ length (now (S c .args .rotations)))
+passed : (c : tie.Else1) → (blockRefusal (now (S c .args .codes)) (now (S c .args .block)) ≡ 0)
+    × (positionsLength (now (S c .args .sizes)) ≤ length (now (S c .args .positions)))
+    × (rotationsLength (now (S c .args .sizes)) ≤ length (now (S c .args .rotations)))
 passed c = frames-passed _ _ _ _ _ (number c)
 
 -- the list of poses keeps its length
@@ -30,7 +30,9 @@ held : (c : tie.After-get-frames-immutable) → length (c .get-frames-immutable 
 held c = c .get-frames-immutable .kept .1 .1 .1 .1 .0
 
 frames-refusal-requires : tie.Need-frames-refusal-requires
-frames-refusal-requires c κs = search needs
+frames-refusal-requires c κs =
+    let p = c .before .before .before .before .before .before .pre in
+    (p .chains .few, omega (arith, p .whole, p .links))
 
 returns : tie.Need-returns
 returns c =
@@ -52,7 +54,7 @@ put-positions-requires : tie.Need-put-positions-requires
 put-positions-requires c κs =
     let e = c .before .before .before .before .before in
     let s = S e in
-    (s .pre .chains, (omega (arith, s .pre, held (c .before .before .before)), omega (arith, s .pre, passed e .1)))
+    (s .pre .chains, (omega (arith, s .pre, held (c .before .before .before)), omega (arith, positions-sum (now (s .args .sizes)), passed e .1)))
 
 slice-aggregate-put-rotations : tie.Need-slice-aggregate-put-rotations
 slice-aggregate-put-rotations c = search needs
@@ -61,7 +63,7 @@ put-rotations-requires : tie.Need-put-rotations-requires
 put-rotations-requires c κs =
     let e = c .before .before .before .before .before .before .before .before .before .before in
     let s = S e in
-    (s .pre .chains, (omega (arith, s .pre, held (c .before .before .before .before .before .before .before .before)), omega (arith, s .pre, passed e .2)))
+    (s .pre .chains, (omega (arith, s .pre, held (c .before .before .before .before .before .before .before .before)), omega (arith, rotations-sum (now (s .args .sizes)), passed e .2)))
 
 same-length : tie.Need-same-length
 same-length c = search needs

@@ -1,12 +1,12 @@
--- `pose` meets its contract: a refusal writes nothing; else the list is made of the walk's poses. Assumes nothing.
+-- `pose` meets its contract: a refusal writes nothing; else the list is made of the walk's poses.
 use mathlib.Core.Path.{_≡_, refl, sym, ap, _∙_}
-use Prim.Native.Nat.{_*_, _≤_}
+use Prim.Native.Nat.{_≤_}
 use native.Mathlib.Omega.{arith}
 use denote.Ref.{now}
 use lib.ListN.{length}
 use Rattle.lists.specs.Splice.{splice}
-use Rattle.sheet.specs.Chain.{joints}
 use Rattle.spacetime.specs.Frames.{ends-ext}
+use Rattle.refusals.specs.Lengths.{endsLength}
 use Rattle.refusals.specs.Refusal.{blockRefusal}
 use Rattle.calls.specs.Arms.{sheet-of, walked, taken, refused}
 use Rattle.calls.specs.Frames.{poseRefusal, pose-passed}
@@ -20,7 +20,7 @@ S c = c .before .before .before .before .before .before .before
 number : (c : tie.Else1) → poseRefusal (now (S c .args .sizes)) (now (S c .args .codes)) (now (S c .args .block)) (length (now (S c .args .ends))) ≡ 0
 number c = sym (c .before .pose-refusal .ensures) ∙ c .if1 .left
 
-passed : (c : tie.Else1) → (blockRefusal (joints (now (S c .args .codes))) (now (S c .args .block)) ≡ 0) × (7 * length (now (S c .args .sizes)) ≤ length (now (S c .args .ends)))
+passed : (c : tie.Else1) → (blockRefusal (now (S c .args .codes)) (now (S c .args .block)) ≡ 0) × (endsLength (now (S c .args .sizes)) ≤ length (now (S c .args .ends)))
 passed c = pose-passed _ _ _ _ (number c)
 
 -- the list of poses keeps its length
@@ -45,6 +45,7 @@ slice-aggregate-put-ends : tie.Need-slice-aggregate-put-ends
 slice-aggregate-put-ends c = search needs
 
 put-ends-requires : tie.Need-put-ends-requires
+unfolding endsLength
 put-ends-requires c κs =
     let e = c .before .before .before .before .before in
     let s = S e in

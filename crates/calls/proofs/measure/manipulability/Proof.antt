@@ -1,37 +1,30 @@
--- `manipulability` meets its contract: a bad block is refused; else the view is that of the walk's poses. Assumes nothing.
-use mathlib.Core.Path.{_≡_, refl, sym, ap, _∙_}
-use Prim.Native.Nat.{ℕ}
+-- `manipulability` meets its contract: a bad block is refused; chains under six joints add up to 0; else the view is that of the walk's poses.
+use mathlib.Core.Path.{_≡_, refl, sym, _∙_}
 use native.Mathlib.Omega.{arith}
 use denote.Ref.{now}
 use lib.Ieee.{nan}
 use lib.ListN.{length}
-use Rattle.sheet.specs.Chain.{joints, joint-last}
+use borrow.Author.Tests.{not-true}
+use Rattle.standins.specs.Num.{nought}
 use Rattle.manipulability.specs.View.{view-list}
 use Rattle.manipulability.specs.Jacobian.{manipulability-ext}
 use Rattle.refusals.specs.Refusal.{blockRefusal}
 use Rattle.calls.specs.Arms.{sheet-of, walked}
 use Rattle.calls.specs.Answer.{value-taken, value-refused, answer-taken, answer-refused}
+use Rattle.calls.specs.Six.{none-six}
 use borrow.Author.Needs.{needs}
 use Rattle.calls.proofs.measure.manipulability.Statement.{statement}
 use Rattle.calls.proofs.measure.manipulability.Tie as tie
 
-abbrev S : tie.After-block-refusal → tie.Start
+abbrev S : tie.Else1 → tie.Start
 S c = c .before .before .before .before .before .before
 
-number : (c : tie.After-block-refusal) → c .block-refusal .result ≡ blockRefusal (joints (now (S c .args .codes))) (now (S c .args .block))
-number c =
-    c .block-refusal .ensures
-    ∙ ap (λ (n : ℕ). blockRefusal n (now (S c .args .block))) (c .before .joint-number .ensures ∙ joint-last (now (S c .args .codes)))
-
-passed : (c : tie.Else1) → blockRefusal (joints (now (S (c .before) .args .codes))) (now (S (c .before) .args .block)) ≡ 0
-passed c = sym (number (c .before)) ∙ c .if1 .left
+passed : (c : tie.Else1) → blockRefusal (now (S c .args .codes)) (now (S c .args .block)) ≡ 0
+passed c = sym (c .before .block-refusal .ensures) ∙ c .if1 .left
 
 -- the list of poses keeps its length
 held : (c : tie.After-get-frames-immutable) → length (c .get-frames-immutable .last .1 .1 .1 .1 .0) ≡ 448
 held c = c .get-frames-immutable .kept .1 .1 .1 .1 .0
-
-joint-number-requires : tie.Need-joint-number-requires
-joint-number-requires c κs = search needs
 
 block-refusal-requires : tie.Need-block-refusal-requires
 block-refusal-requires c κs = search needs
@@ -39,15 +32,27 @@ block-refusal-requires c κs = search needs
 returns : tie.Need-returns
 returns c =
     let n = c .before .block-refusal .result in
-    (number (c .before), (sym (value-refused n _ (c .if1 .taken)), sym (answer-refused n nan (c .if1 .taken))))
+    (c .before .block-refusal .ensures, (sym (value-refused n _ (c .if1 .taken)), sym (answer-refused n nan (c .if1 .taken))))
+
+any-six-requires : tie.Need-any-six-requires
+any-six-requires c κs =
+    let p = S c .pre in
+    (p .whole, p .links)
+
+returns-2 : tie.Need-returns-2
+returns-2 c =
+    let e = c .before .before in
+    let none = sym (c .before .any-six .ensures) ∙ not-true _ (c .if2 .taken) in
+    (sym (passed e), (sym (value-taken 0 _ refl ∙ none-six _ _ _ none), sym (answer-taken nought)))
 
 slice-aggregate-get-frames-immutable : tie.Need-slice-aggregate-get-frames-immutable
 slice-aggregate-get-frames-immutable c = search needs
 
 get-frames-immutable-requires : tie.Need-get-frames-immutable-requires
 get-frames-immutable-requires c κs =
-    let s = S (c .before .before) in
-    (sheet-of _ _ _ _ (s .pre) (passed (c .before)), omega (arith, s .pre))
+    let e = c .before .before .before in
+    let s = S e in
+    (sheet-of _ _ _ _ (s .pre) (passed e), omega (arith, s .pre))
 
 slice-aggregate-get-manipulability-immutable :
     tie.Need-slice-aggregate-get-manipulability-immutable
@@ -65,26 +70,27 @@ part-get-manipulability-immutable-end c = search needs
 get-manipulability-immutable-requires : tie.Need-get-manipulability-immutable-requires
 get-manipulability-immutable-requires c κs =
     let g = c .before .before .before in
-    let s = S (g .before .before .before) in
+    let s = S (g .before .before .before .before) in
     (record { whole = s .pre .whole; few = s .pre .few }, record { first = omega (arith, s .pre, held g); again = omega arith })
 
-returns-2 : tie.Need-returns-2
-returns-2 c =
+returns-3 : tie.Need-returns-3
+returns-3 c =
     let g = c .before .before .before .before in
-    let s = S (g .before .before .before) in
+    let s = S (g .before .before .before .before) in
     let a = s .args in
     let ns = now (a .sizes) in
     let w = walked ns (now (a .codes)) (now (a .geo)) (now (a .block)) _ _ (s .pre) (omega arith) (g .get-frames-immutable .ensures) in
     let v = c .get-manipulability-immutable .ensures ∙ manipulability-ext _ _ ns (now (a .codes)) (λ l h. view-list _ _ l ∙ w l h) in
-    (sym (passed (g .before .before)), (v ∙ sym (value-taken 0 _ refl), sym (answer-taken _)))
+    (sym (passed (g .before .before .before .before)), (v ∙ sym (value-taken 0 _ refl), sym (answer-taken _)))
 
 pub manipulability-spec : {M : Type 1} → statement M
 manipulability-spec =
     tie.close
     (tie.spec
-    joint-number-requires
     block-refusal-requires
     returns
+    any-six-requires
+    returns-2
     slice-aggregate-get-frames-immutable
     get-frames-immutable-requires
     slice-aggregate-get-manipulability-immutable
@@ -92,4 +98,4 @@ manipulability-spec =
     part-get-manipulability-immutable-start
     part-get-manipulability-immutable-end
     get-manipulability-immutable-requires
-    returns-2)
+    returns-3)

@@ -1,4 +1,4 @@
--- `relaxed_ik_determinant` meets its contract: by the test of the length, and by what its two calls ensure. Assumes nothing.
+-- `relaxed_ik_determinant` meets its contract: by the test of the length, and by what its two calls ensure.
 use mathlib.Core.Path.{ap, _∙_}
 use borrow.Author.Tests.{eq-eqb, ne-eqb}
 use Rattle.standins.specs.Num.{no-number}

@@ -1,4 +1,4 @@
--- `relaxed_ik_gram` meets its contract: by the tests, and by what its calls ensure. Assumes nothing.
+-- `relaxed_ik_gram` meets its contract: by the tests, and by what its calls ensure.
 use mathlib.Core.Path.{_≡_, sym, ap, _∙_}
 use mathlib.Core.List.{List}
 use Prim.Native.Nat.{_+_, _*_, _/_}

@@ -1,4 +1,4 @@
--- `relaxed_ik_get_quat` meets its contract: each return follows the tests before it. Assumes nothing.
+-- `relaxed_ik_get_quat` meets its contract: each return follows the tests before it.
 use borrow.Author.Tests.{eq-eqb, ne-eqb}
 use Rattle.standins.specs.Num.{no-number}
 use Rattle.exports.specs.Parts.{getQuatPart}

@@ -1,4 +1,4 @@
--- `put_slopes` meets its contract: turn after turn one slope more. Assumes nothing.
+-- `put_slopes` meets its contract: turn after turn one slope more.
 use mathlib.Core.Path.{_≡_, refl, ap, _∙_}
 use Prim.Native.Nat.{ℕ, _-_, _≤_}
 use native.Mathlib.Omega.{arith}

@@ -1,4 +1,4 @@
--- `each_joint_limits` meets its contract: its loss, evaluated. Assumes nothing.
+-- `each_joint_limits` meets its contract: its loss, evaluated.
 use Rattle.groove.specs.Loss.{eachJointLimits}
 use borrow.Author.Needs.{needs}
 use Rattle.groove.proofs.objective.each_joint_limits.Statement.{statement}

@@ -1,4 +1,4 @@
--- `evaluate` meets its contract: each case is the loss of its name. Assumes nothing.
+-- `evaluate` meets its contract: each case is the loss of its name.
 use Rattle.groove.specs.Loss.{evaluateOf}
 use borrow.Author.Needs.{needs}
 use Rattle.groove.proofs.objective.evaluate.Statement.{statement}

@@ -1,4 +1,4 @@
--- `free` meets its contract: each return follows the tests before it. Assumes nothing.
+-- `free` meets its contract: each return follows the tests before it.
 use lib.Ieee.{ofInt, ofBits}
 use Rattle.groove.specs.Loss.{freeOf}
 use Rattle.groove.proofs.objective.free.Statement.{statement}

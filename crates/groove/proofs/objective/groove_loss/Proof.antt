@@ -1,4 +1,4 @@
--- `groove_loss` meets its contract: from what `exp` ensures. Assumes nothing.
+-- `groove_loss` meets its contract: from what `exp` ensures.
 use Rattle.groove.specs.Loss.{grooveLoss}
 use borrow.Author.Needs.{needs}
 use Rattle.groove.proofs.objective.groove_loss.Statement.{statement}

@@ -1,4 +1,4 @@
--- `joint_changes` meets its contract. The loop keeps the three sums of squares over the joints so far; the measure is the number of joints left. Assumes nothing.
+-- `joint_changes` meets its contract. The loop keeps the three sums of squares over the joints so far; the measure is the number of joints left.
 use mathlib.Core.Path.{_≡_, refl}
 use Prim.Native.Nat.{_-_, _≤_}
 use native.Mathlib.Numerals.{add-one}

@@ -1,4 +1,4 @@
--- `limits_loss` meets its contract: each return follows the test before it. Assumes nothing.
+-- `limits_loss` meets its contract: each return follows the test before it.
 use lib.Ieee.{ofInt, ofBits}
 use Rattle.groove.specs.Loss.{limitsLoss}
 use borrow.Author.Needs.{needs}

@@ -1,4 +1,4 @@
--- `manipulability_loss` meets its contract: by computation. Assumes nothing.
+-- `manipulability_loss` meets its contract: by computation.
 use mathlib.Core.Path.{refl}
 use Rattle.groove.specs.Loss.{manipulabilityLoss}
 use Rattle.groove.proofs.objective.manipulability_loss.Statement.{statement}

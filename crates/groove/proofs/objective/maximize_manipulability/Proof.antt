@@ -1,4 +1,4 @@
--- `maximize_manipulability` meets its contract: its loss, evaluated. Assumes nothing.
+-- `maximize_manipulability` meets its contract: its loss, evaluated.
 use Rattle.groove.specs.Loss.{maximizeManipulability}
 use borrow.Author.Needs.{needs}
 use Rattle.groove.proofs.objective.maximize_manipulability.Statement.{statement}

@@ -1,4 +1,4 @@
--- `minimize_acceleration` meets its contract: its loss, evaluated. Assumes nothing.
+-- `minimize_acceleration` meets its contract: its loss, evaluated.
 use Rattle.groove.specs.Loss.{minimizeAcceleration}
 use borrow.Author.Needs.{needs}
 use Rattle.groove.proofs.objective.minimize_acceleration.Statement.{statement}

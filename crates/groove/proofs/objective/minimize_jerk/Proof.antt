@@ -1,4 +1,4 @@
--- `minimize_jerk` meets its contract: its loss, evaluated. Assumes nothing.
+-- `minimize_jerk` meets its contract: its loss, evaluated.
 use Rattle.groove.specs.Loss.{minimizeJerk}
 use borrow.Author.Needs.{needs}
 use Rattle.groove.proofs.objective.minimize_jerk.Statement.{statement}

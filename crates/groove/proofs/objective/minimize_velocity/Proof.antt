@@ -1,4 +1,4 @@
--- `minimize_velocity` meets its contract: its loss, evaluated. Assumes nothing.
+-- `minimize_velocity` meets its contract: its loss, evaluated.
 use Rattle.groove.specs.Loss.{minimizeVelocity}
 use borrow.Author.Needs.{needs}
 use Rattle.groove.proofs.objective.minimize_velocity.Statement.{statement}

@@ -1,4 +1,4 @@
--- `narrow` meets its contract: by computation. Assumes nothing.
+-- `narrow` meets its contract: by computation.
 use mathlib.Core.Path.{refl}
 use Rattle.groove.specs.Loss.{narrowOf}
 use Rattle.groove.proofs.objective.narrow.Statement.{statement}

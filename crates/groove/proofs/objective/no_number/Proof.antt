@@ -1,4 +1,4 @@
--- `no_number` meets its contract. The joints passed are no NaN; the measure is the number of joints left. Assumes nothing.
+-- `no_number` meets its contract. The joints passed are no NaN; the measure is the number of joints left.
 use mathlib.Core.Path.{_≡_, refl, sym, ap, _∙_}
 use mathlib.Core.Bool.{false}
 use Prim.Native.Nat.{_-_, _≤_}

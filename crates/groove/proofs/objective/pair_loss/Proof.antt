@@ -1,4 +1,4 @@
--- `pair_loss` meets its contract: each return follows the tests before it. Assumes nothing.
+-- `pair_loss` meets its contract: each return follows the tests before it.
 use lib.Ieee.{ofInt, ofBits}
 use Rattle.groove.specs.Loss.{pairLoss}
 use Rattle.groove.proofs.objective.pair_loss.Statement.{statement}

@@ -1,4 +1,4 @@
--- `position_loss` meets its contract: each return follows the test before it. Assumes nothing.
+-- `position_loss` meets its contract: each return follows the test before it.
 use lib.Ieee.{ofInt, ofBits}
 use Rattle.groove.specs.Loss.{positionLoss}
 use borrow.Author.Needs.{needs}

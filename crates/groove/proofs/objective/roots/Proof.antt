@@ -1,4 +1,4 @@
--- `roots` meets its contract: from what `sqrt` ensures. Assumes nothing.
+-- `roots` meets its contract: from what `sqrt` ensures.
 use borrow.Author.Needs.{needs}
 use Rattle.groove.proofs.objective.roots.Statement.{statement}
 use Rattle.groove.proofs.objective.roots.Tie as tie

@@ -1,4 +1,4 @@
--- `rotation_loss` meets its contract: each return follows the tests before it. Assumes nothing.
+-- `rotation_loss` meets its contract: each return follows the tests before it.
 use lib.Ieee.{ofInt, ofBits}
 use Rattle.groove.specs.Loss.{rotationLoss}
 use borrow.Author.Needs.{needs}

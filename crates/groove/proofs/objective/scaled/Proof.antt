@@ -1,4 +1,4 @@
--- `scaled` meets its contract: by computation. Assumes nothing.
+-- `scaled` meets its contract: by computation.
 use mathlib.Core.Path.{refl}
 use Rattle.groove.specs.Loss.{scaledOf}
 use Rattle.groove.proofs.objective.scaled.Statement.{statement}

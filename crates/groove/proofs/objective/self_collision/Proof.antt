@@ -1,4 +1,4 @@
--- `self_collision` meets its contract: its loss, evaluated. Assumes nothing.
+-- `self_collision` meets its contract: its loss, evaluated.
 use Rattle.groove.specs.Loss.{selfCollision}
 use borrow.Author.Needs.{needs}
 use Rattle.groove.proofs.objective.self_collision.Statement.{statement}

@@ -1,4 +1,4 @@
--- `swamp_groove_loss` meets its contract: from what the three calls ensure. Assumes nothing.
+-- `swamp_groove_loss` meets its contract: from what the three calls ensure.
 use Rattle.groove.specs.Loss.{swampGrooveLoss}
 use borrow.Author.Needs.{needs}
 use Rattle.groove.proofs.objective.swamp_groove_loss.Statement.{statement}

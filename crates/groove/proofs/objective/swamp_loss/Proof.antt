@@ -1,4 +1,4 @@
--- `swamp_loss` meets its contract: from what the two calls ensure. Assumes nothing.
+-- `swamp_loss` meets its contract: from what the two calls ensure.
 use Rattle.groove.specs.Loss.{swampLoss}
 use borrow.Author.Needs.{needs}
 use Rattle.groove.proofs.objective.swamp_loss.Statement.{statement}

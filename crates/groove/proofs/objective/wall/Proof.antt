@@ -1,4 +1,4 @@
--- `wall` meets its contract: each return follows the tests before it. Assumes nothing.
+-- `wall` meets its contract: each return follows the tests before it.
 use borrow.Author.Tests.{eq-eqb, ne-eqb}
 use Rattle.groove.specs.Loss.{powerOf, bOf, wallOf}
 use borrow.Author.Needs.{needs}

@@ -1,4 +1,4 @@
--- `float_at` meets its contract: each return follows the test of the length. Assumes nothing.
+-- `float_at` meets its contract: each return follows the test of the length.
 use mathlib.Core.Path.{ap, _∙_}
 use borrow.Author.Needs.{needs}
 use borrow.Author.Tests.{lt-ltb, le-ltb}

@@ -1,4 +1,4 @@
--- `float_of` meets its contract: the test tells a NaN's pattern. Assumes nothing.
+-- `float_of` meets its contract: the test tells a NaN's pattern.
 use mathlib.Core.Path.{sym, _∙_, subst}
 use mathlib.Core.Bool.{Bool, not}
 use borrow.Author.Needs.{needs}

@@ -1,4 +1,4 @@
--- `floats` meets its contract: turn after turn one float more. Assumes nothing.
+-- `floats` meets its contract: turn after turn one float more.
 use mathlib.Core.Path.{_≡_, refl, ap, _∙_}
 use Prim.Native.Nat.{_-_, _≤_}
 use native.Mathlib.Omega.{arith}

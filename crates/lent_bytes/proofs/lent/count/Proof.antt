@@ -1,4 +1,4 @@
--- `count` meets its contract: each return follows its tests. Assumes nothing.
+-- `count` meets its contract: each return follows its tests.
 use mathlib.Core.Path.{_≡_}
 use Prim.Native.Nat.{_%_}
 use native.Mathlib.Omega.{arith}

@@ -1,4 +1,4 @@
--- `floats` meets its contract: turn after turn one more. Assumes nothing.
+-- `floats` meets its contract: turn after turn one more.
 use mathlib.Core.Path.{_≡_, refl, sym, ap, _∙_}
 use Prim.Native.Nat.{ℕ, _-_, _≤_}
 use native.Mathlib.Omega.{arith}

@@ -1,4 +1,4 @@
--- `number_room` meets its contract: each return follows the test. Assumes nothing.
+-- `number_room` meets its contract: each return follows the test.
 use borrow.Author.Tests.{eq-eqb, ne-eqb}
 use Rattle.lent_bytes.specs.Lent.{numberRoomIn}
 use Rattle.lent_bytes.proofs.lent.number_room.Statement.{statement}

@@ -1,4 +1,4 @@
--- `pattern` meets its contract: a float that differs from itself is the NaN. Assumes nothing.
+-- `pattern` meets its contract: a float that differs from itself is the NaN.
 use mathlib.Core.Path.{sym, ap, subst}
 use lib.Dec.{T}
 use lib.Ieee.{binary64, toBits}

@@ -1,4 +1,4 @@
--- `put_floats` meets its contract: turn after turn eight bytes more. Assumes nothing.
+-- `put_floats` meets its contract: turn after turn eight bytes more.
 use mathlib.Core.Path.{_≡_, refl, ap, _∙_}
 use Prim.Native.Nat.{ℕ, _+_, _*_, _-_, _≤_}
 use native.Mathlib.Omega.{arith}

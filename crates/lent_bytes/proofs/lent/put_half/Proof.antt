@@ -1,4 +1,4 @@
--- `put_half` meets its contract: four stores in a row. Assumes nothing.
+-- `put_half` meets its contract: four stores in a row.
 use native.Mathlib.Omega.{arith}
 use denote.Ref.{now}
 use lib.ListN.{length-set}

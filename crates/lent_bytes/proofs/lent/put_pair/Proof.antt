@@ -1,4 +1,4 @@
--- `put_pair` meets its contract: two stores in a row. Assumes nothing.
+-- `put_pair` meets its contract: two stores in a row.
 use native.Mathlib.Omega.{arith}
 use denote.Ref.{now}
 use lib.ListN.{length-set}

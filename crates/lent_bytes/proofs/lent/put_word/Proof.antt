@@ -1,4 +1,4 @@
--- `put_word` meets its contract: two halves that touch. Assumes nothing.
+-- `put_word` meets its contract: two halves that touch.
 use mathlib.Core.Path.{refl, ap, _∙_}
 use mathlib.Core.List.{List}
 use Prim.Native.Nat.{ℕ, _+_, _/_}

@@ -1,4 +1,4 @@
--- `room` meets its contract: each return follows the test. Assumes nothing.
+-- `room` meets its contract: each return follows the test.
 use borrow.Author.Tests.{eq-eqb, ne-eqb}
 use Rattle.lent_bytes.specs.Lent.{roomIn}
 use Rattle.lent_bytes.proofs.lent.room.Statement.{statement}

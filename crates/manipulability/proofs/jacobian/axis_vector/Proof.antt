@@ -1,4 +1,4 @@
--- `axis_vector` meets its contract: each return follows the test. Assumes nothing.
+-- `axis_vector` meets its contract: each return follows the test.
 use mathlib.Core.Path.{ap, _∙_}
 use borrow.Author.Tests.{eq-eqb, ne-eqb}
 use Rattle.geometry.specs.Quaternion.{rotateOf}

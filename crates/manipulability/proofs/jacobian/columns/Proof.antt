@@ -1,4 +1,4 @@
--- `columns` meets its contract: turn after turn one link more. Assumes nothing.
+-- `columns` meets its contract: turn after turn one link more.
 use mathlib.Core.Path.{_≡_, refl, ap, _∙_}
 use Prim.Native.Nat.{_-_, _≤_}
 use native.Mathlib.Omega.{arith}

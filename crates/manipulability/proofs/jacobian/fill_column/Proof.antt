@@ -1,4 +1,4 @@
--- `fill_column` meets its contract: by what its two calls ensure. Assumes nothing.
+-- `fill_column` meets its contract: by what its two calls ensure.
 use Rattle.manipulability.specs.Jacobian.{filledOf}
 use borrow.Author.Needs.{needs}
 use Rattle.manipulability.proofs.jacobian.fill_column.Statement.{statement}

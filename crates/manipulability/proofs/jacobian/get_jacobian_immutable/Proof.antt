@@ -1,4 +1,4 @@
--- `get_jacobian_immutable` meets its contract: the axes are the front of the array, and the columns start as the identity. Assumes nothing.
+-- `get_jacobian_immutable` meets its contract: the axes are the front of the array, and the columns start as the identity.
 use mathlib.Core.Path.{_≡_, ap, _∙_}
 use Prim.Native.Nat.{ℕ, _-_, _/_}
 use native.Mathlib.Omega.{arith}

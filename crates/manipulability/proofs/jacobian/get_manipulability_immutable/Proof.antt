@@ -1,4 +1,4 @@
--- `get_manipulability_immutable` meets its contract: the Jacobian is the front of the array. Assumes nothing.
+-- `get_manipulability_immutable` meets its contract: the Jacobian is the front of the array.
 use mathlib.Core.Path.{_≡_, sym, ap, _∙_}
 use Prim.Native.Nat.{_-_, _*_, _≤_, _<_}
 use native.Mathlib.Omega.{arith}

@@ -1,4 +1,4 @@
--- `identity` meets its contract: turn after turn one float more. Assumes nothing.
+-- `identity` meets its contract: turn after turn one float more.
 use mathlib.Core.Path.{_≡_, refl, ap, _∙_}
 use Prim.Native.Nat.{ℕ, _-_, _≤_}
 use native.Mathlib.Omega.{arith}

@@ -1,4 +1,4 @@
--- `joint_axes` meets its contract: turn after turn the axes of one link more. Assumes nothing.
+-- `joint_axes` meets its contract: turn after turn the axes of one link more.
 use mathlib.Core.Path.{_≡_, refl, sym, ap, _∙_}
 use Prim.Native.Nat.{_+_, _-_, _≤_}
 use native.Mathlib.Omega.{arith}

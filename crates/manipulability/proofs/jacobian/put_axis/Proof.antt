@@ -1,11 +1,11 @@
--- `put_axis` meets its contract: a fixed link writes nothing. Assumes nothing.
+-- `put_axis` meets its contract: a fixed link writes nothing.
 use mathlib.Core.Path.{_≡_, sym, ap, _∙_}
 use native.Mathlib.Omega.{arith}
 use denote.Ref.{now}
 use borrow.Author.Tests.{not-true, not-false}
 use lib.ListN.{getD, set}
 use Rattle.lists.specs.Splice.{splice, splice-nil, splice-one}
-use Rattle.sheet.specs.Code.{joint-there, joint-missing}
+use Rattle.sheet.specs.Code.{hasJoint, axisIn, joint-there, joint-missing}
 use Rattle.sheet.specs.Chain.{joints-fixed, joints-one}
 use Rattle.manipulability.specs.Jacobian.{piece-fixed, piece-one}
 use borrow.Author.Needs.{needs}
@@ -14,13 +14,10 @@ use Rattle.manipulability.proofs.jacobian.put_axis.Tie as tie
 
 -- the link has a joint
 there : (c : tie.Else1) → getD (now (c .before .before .before .before .args .codes)) (c .before .before .before .before .args .link) 0 ≡ 0 → ⊥
-there c = joint-there _ (sym (c .before .has-joint .ensures) ∙ not-false _ (c .if1 .left))
+there c = joint-there _ (ap hasJoint (sym (c .before .before .read .ensures)) ∙ sym (c .before .has-joint .ensures) ∙ not-false _ (c .if1 .left))
 
-mul-k : tie.Need-mul-k
-mul-k c = search needs
-
-shared-slice-read-k : tie.Need-shared-slice-read-k
-shared-slice-read-k c = search needs
+read-requires : tie.Need-read-requires
+read-requires c κs = search needs
 
 has-joint-requires : tie.Need-has-joint-requires
 has-joint-requires c κs = search needs
@@ -29,7 +26,7 @@ returns : tie.Need-returns
 returns c =
     let a = c .before .before .before .before .args in
     let cs = now (a .codes) in
-    let fixed = joint-missing (getD cs (a .link) 0) (sym (c .before .has-joint .ensures) ∙ not-true _ (c .if1 .taken)) in (
+    let fixed = joint-missing (getD cs (a .link) 0) (ap hasJoint (sym (c .before .before .read .ensures)) ∙ sym (c .before .has-joint .ensures) ∙ not-true _ (c .if1 .taken)) in (
       omega (arith, joints-fixed (getD cs (a .link) 0) fixed),
       sym (ap (splice (now (a .axes)) (a .joint)) (piece-fixed cs (a .link) fixed) ∙ splice-nil (now (a .axes)) (a .joint)),
     )
@@ -53,7 +50,7 @@ returns-2 c =
     let cs = now (a .codes) in
     let one = joints-one (getD cs (a .link) 0) (there (c .before)) in (
       omega (arith, one),
-      ap (set (now (a .axes)) (a .joint)) (c .axis .ensures)
+      ap (set (now (a .axes)) (a .joint)) (c .axis .ensures ∙ ap axisIn (c .before .before .before .read .ensures))
           ∙ sym (ap (splice (now (a .axes)) (a .joint)) (piece-one cs (a .link) (there (c .before))) ∙ splice-one (now (a .axes)) (a .joint) _ (omega (arith, s .pre, one))),
     )
 
@@ -61,8 +58,7 @@ pub put-axis-spec : {M : Type 1} → statement M
 put-axis-spec =
     tie.close
     (tie.spec
-    mul-k
-    shared-slice-read-k
+    read-requires
     has-joint-requires
     returns
     axis-requires

@@ -1,4 +1,4 @@
--- `room` meets its contract: the array is as long as its type says. Assumes nothing.
+-- `room` meets its contract: the array is as long as its type says.
 use mathlib.Core.Path.{refl}
 use Rattle.manipulability.proofs.jacobian.room.Statement.{statement}
 use Rattle.manipulability.proofs.jacobian.room.Tie as tie

@@ -1,4 +1,4 @@
--- `step` meets its contract: a link that turns has a joint, and so a column and an axis. Assumes nothing.
+-- `step` meets its contract: a link that turns has a joint, and so a column and an axis.
 use mathlib.Core.Path.{_≡_, sym, _∙_}
 use mathlib.Core.Bool.{true}
 use native.Mathlib.Omega.{arith}

@@ -1,4 +1,4 @@
--- `turns` meets its contract: each kind by its arm. Assumes nothing.
+-- `turns` meets its contract: each kind by its arm.
 use Rattle.manipulability.specs.Jacobian.{turnsAt}
 use borrow.Author.Needs.{needs}
 use Rattle.manipulability.proofs.jacobian.turns.Statement.{statement}

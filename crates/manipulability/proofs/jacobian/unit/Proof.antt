@@ -1,4 +1,4 @@
--- `unit` meets its contract: each return follows the test. Assumes nothing.
+-- `unit` meets its contract: each return follows the test.
 use borrow.Author.Tests.{eq-eqb, ne-eqb}
 use Rattle.manipulability.specs.Jacobian.{unitOf}
 use Rattle.manipulability.proofs.jacobian.unit.Statement.{statement}

@@ -1,4 +1,4 @@
--- `robot::get_manipulability_immutable` meets its contract: turn after turn one chain more. Assumes nothing.
+-- `robot::get_manipulability_immutable` meets its contract: turn after turn one chain more.
 use mathlib.Core.Path.{_≡_, refl, sym, ap, _∙_}
 use Prim.Native.Nat.{ℕ, _+_, _-_, _≤_}
 use native.Mathlib.Omega.{arith}

@@ -1,4 +1,4 @@
--- `pose` meets its contract: each return follows the tests before it. Assumes nothing.
+-- `pose` meets its contract: each return follows the tests before it.
 use borrow.Author.Tests.{lt-ltb, le-ltb, le-leb, lt-leb}
 use Rattle.manipulability.specs.View.{viewOf}
 use borrow.Author.Needs.{needs}

@@ -1,4 +1,4 @@
--- `position` meets its contract: each return follows the tests before it. Assumes nothing.
+-- `position` meets its contract: each return follows the tests before it.
 use borrow.Author.Tests.{lt-ltb, le-ltb, le-leb, lt-leb}
 use Rattle.spacetime.specs.Floats.{poseAt}
 use Rattle.manipulability.specs.View.{viewOf}

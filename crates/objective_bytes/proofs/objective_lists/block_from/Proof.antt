@@ -1,4 +1,4 @@
--- `block_from` meets its contract: a part of n floats. Assumes nothing.
+-- `block_from` meets its contract: a part of n floats.
 use mathlib.Core.Path.{_≡_, ap}
 use Prim.Native.Nat.{ℕ, _+_, _-_}
 use native.Mathlib.Omega.{arith}

@@ -1,4 +1,4 @@
--- `gradient_finite_diff` meets its contract: a refusal writes nothing; else the outputs are the bytes of joints, value and slopes. Assumes nothing.
+-- `gradient_finite_diff` meets its contract: a refusal writes nothing; else the outputs are the bytes of joints, value and slopes.
 use mathlib.Core.Path.{refl, sym, ap, _∙_}
 use mathlib.Core.List.{List, [], _∷_}
 use native.Mathlib.Omega.{arith}

@@ -1,4 +1,4 @@
--- `objective` meets its contract: a refusal writes nothing; else the output is the value's bytes. Assumes nothing.
+-- `objective` meets its contract: a refusal writes nothing; else the output is the value's bytes.
 use mathlib.Core.Path.{_≡_, refl, sym, ap, _∙_}
 use mathlib.Core.List.{[], _∷_}
 use native.Mathlib.Omega.{arith}

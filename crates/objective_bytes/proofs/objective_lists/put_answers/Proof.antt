@@ -1,4 +1,4 @@
--- `put_answers` meets its contract: each list goes to its own output. Assumes nothing.
+-- `put_answers` meets its contract: each list goes to its own output.
 use mathlib.Core.Path.{_≡_, sym}
 use native.Mathlib.Omega.{arith}
 use denote.Ref.{now}

@@ -1,7 +1,5 @@
--- `slopes_number` meets its contract: 1 to 8, then 9 for each output. Assumes nothing.
+-- `slopes_number` meets its contract: 1 to 8, then 9 for each output.
 use mathlib.Core.Path.{ap, _∙_}
-use denote.Ref.{now}
-use Rattle.sheet.specs.Chain.{joint-last}
 use Rattle.refusals.specs.Lowest.{firstOf}
 use Rattle.refusals.specs.Refusal.{roomRefusal}
 use Rattle.lent_bytes.specs.SheetLists.{same-two}
@@ -13,8 +11,8 @@ use Rattle.objective_bytes.proofs.objective_lists.slopes_number.Tie as 
 aimed-number-requires : tie.Need-aimed-number-requires
 aimed-number-requires c κs = search needs
 
-joint-number-requires : tie.Need-joint-number-requires
-joint-number-requires c κs = search needs
+block-length-requires : tie.Need-block-length-requires
+block-length-requires c κs = search needs
 
 room-requires : tie.Need-room-requires
 room-requires c κs = search needs
@@ -46,7 +44,7 @@ first-of-requires-3 c κs = search needs
 returns : tie.Need-returns
 unfolding slopesNumber
 returns c =
-    let n = c .before .before .before .before .before .before .before .before .before .joint-number .ensures ∙ joint-last (now (c .before .before .before .before .before .before .before .before .before .before .before .before .before .before .before .before .before .before .args .codes)) in
+    let n = c .before .before .before .before .before .before .before .before .before .block-length .ensures in
     let first = c .before .before .before .before .before .before .before .room-refusal .ensures ∙ same-two roomRefusal n (c .before .before .before .before .before .before .before .before .room .ensures) in
     let second = c .before .before .before .before .before .room-refusal2 .ensures ∙ ap (roomRefusal 1) (c .before .before .before .before .before .before .room2 .ensures) in
     let third = c .before .before .before .room-refusal3 .ensures ∙ same-two roomRefusal n (c .before .before .before .before .room3 .ensures) in
@@ -58,7 +56,7 @@ slopes-number-spec =
     tie.close
     (tie.spec
     aimed-number-requires
-    joint-number-requires
+    block-length-requires
     room-requires
     room-refusal-requires
     room-requires-2

@@ -1,4 +1,4 @@
--- `value_on` meets its contract: the objective of what the history and the sheet give. Assumes nothing.
+-- `value_on` meets its contract: the objective of what the history and the sheet give.
 use mathlib.Core.Path.{_≡_, sym, ap, _∙_, subst}
 use mathlib.Core.List.{List}
 use Prim.Native.Nat.{ℕ, _*_}

@@ -1,4 +1,4 @@
--- `gradient_finite_diff` meets its contract: a refusal writes nothing; else what is lent is ready. Assumes nothing.
+-- `gradient_finite_diff` meets its contract: a refusal writes nothing; else what is lent is ready.
 use mathlib.Core.Path.{_≡_, refl, sym, _∙_}
 use denote.Ref.{now}
 use lib.Ieee.{nan}

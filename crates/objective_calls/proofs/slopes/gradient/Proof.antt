@@ -1,5 +1,6 @@
--- `gradient` meets its contract: a refusal writes nothing; else what is lent is ready. Assumes nothing.
+-- `gradient` meets its contract: a refusal writes nothing; else what is lent is ready.
 use mathlib.Core.Path.{_≡_, refl, sym, _∙_}
+use native.Mathlib.Omega.{arith}
 use denote.Ref.{now}
 use lib.Ieee.{nan}
 use lib.ListN.{length}
@@ -13,8 +14,15 @@ use Rattle.objective_calls.proofs.slopes.gradient.Tie as tie
 abbrev S : tie.Else1 → tie.Start
 S c = c .before .before .before .before .before .before .before .before .before .before .before .before .before .before
 
+-- a number that is not 0 is a refusal, and only 0 goes on
+stopped : (c : tie.Then1) → c .before .slopes-refusal .result ≡ 0 → ⊥
+stopped c z = omega (arith, c .if1 .taken, z)
+
+goes-on : (c : tie.Else1) → c .before .slopes-refusal .result ≡ 0
+goes-on c = omega (arith, c .if1 .left)
+
 number : (c : tie.Else1) → slopesRefusal (now (S c .args .codes)) (now (S c .args .joints)) (length (now (S c .args .scratch))) (length (now (S c .args .slopes))) ≡ 0
-number c = sym (c .before .slopes-refusal .ensures) ∙ c .if1 .left
+number c = sym (c .before .slopes-refusal .ensures) ∙ goes-on c
 
 slopes-refusal-requires : tie.Need-slopes-refusal-requires
 slopes-refusal-requires c κs = search needs
@@ -23,7 +31,7 @@ returns : tie.Need-returns
 returns c =
     let w = c .before .slopes-refusal in
     let n = w .result in
-    let t = c .if1 .taken in
+    let t = stopped c in
     (w .ensures, (sym (value-refused n _ t), (sym (answer-refused n nan t), (sym (refused n _ _ t), sym (refused n _ _ t)))))
 
 gradient-requires : tie.Need-gradient-requires

@@ -1,14 +1,11 @@
--- `slopes_refusal` meets its contract: by what its calls ensure. Assumes nothing.
-use mathlib.Core.Path.{_≡_, _∙_}
-use denote.Ref.{now}
-use Rattle.sheet.specs.Chain.{joints, joint-last}
+-- `slopes_refusal` meets its contract: by what its calls ensure.
 use Rattle.objective_calls.specs.Aimed.{slopesRefusal}
 use borrow.Author.Needs.{needs}
 use Rattle.objective_calls.proofs.slopes.slopes_refusal.Statement.{statement}
 use Rattle.objective_calls.proofs.slopes.slopes_refusal.Tie as tie
 
-joint-number-requires : tie.Need-joint-number-requires
-joint-number-requires c κs = search needs
+block-length-requires : tie.Need-block-length-requires
+block-length-requires c κs = search needs
 
 block-refusal-requires : tie.Need-block-refusal-requires
 block-refusal-requires c κs = search needs
@@ -27,16 +24,13 @@ first-of-requires-2 c κs = search needs
 
 returns : tie.Need-returns
 unfolding slopesRefusal
-returns c =
-    let j = c .before .before .before .before .before in
-    let e : j .joint-number .result ≡ joints (now (j .before .before .before .args .codes)) = j .joint-number .ensures ∙ joint-last (now (j .before .before .before .args .codes)) in
-    cc
+returns c = cc
 
 pub slopes-refusal-spec : {M : Type 1} → statement M
 slopes-refusal-spec =
     tie.close
     (tie.spec
-    joint-number-requires
+    block-length-requires
     block-refusal-requires
     room-refusal-requires
     room-refusal-requires-2

@@ -1,9 +1,7 @@
--- `objective` meets its contract: a bad block is refused; else what is lent is ready. Assumes nothing.
-use mathlib.Core.Path.{_≡_, refl, sym, ap, _∙_}
-use Prim.Native.Nat.{ℕ}
+-- `objective` meets its contract: a bad block is refused; else what is lent is ready.
+use mathlib.Core.Path.{_≡_, refl, sym, _∙_}
 use denote.Ref.{now}
 use lib.Ieee.{nan}
-use Rattle.sheet.specs.Chain.{joints, joint-last}
 use Rattle.refusals.specs.Refusal.{blockRefusal}
 use Rattle.calls.specs.Answer.{value-taken, value-refused, answer-taken, answer-refused}
 use Rattle.objective_calls.specs.Aimed.{ready-of}
@@ -11,19 +9,11 @@ use borrow.Author.Needs.{needs}
 use Rattle.objective_calls.proofs.value.objective.Statement.{statement}
 use Rattle.objective_calls.proofs.value.objective.Tie as tie
 
-abbrev S : tie.After-block-refusal → tie.Start
+abbrev S : tie.Else1 → tie.Start
 S c = c .before .before .before .before .before .before .before .before .before .before .before .before
 
-number : (c : tie.After-block-refusal) → c .block-refusal .result ≡ blockRefusal (joints (now (S c .args .codes))) (now (S c .args .block))
-number c =
-    c .block-refusal .ensures
-    ∙ ap (λ (n : ℕ). blockRefusal n (now (S c .args .block))) (c .before .joint-number .ensures ∙ joint-last (now (S c .args .codes)))
-
-passed : (c : tie.Else1) → blockRefusal (joints (now (S (c .before) .args .codes))) (now (S (c .before) .args .block)) ≡ 0
-passed c = sym (number (c .before)) ∙ c .if1 .left
-
-joint-number-requires : tie.Need-joint-number-requires
-joint-number-requires c κs = search needs
+passed : (c : tie.Else1) → blockRefusal (now (S c .args .codes)) (now (S c .args .block)) ≡ 0
+passed c = sym (c .before .block-refusal .ensures) ∙ c .if1 .left
 
 block-refusal-requires : tie.Need-block-refusal-requires
 block-refusal-requires c κs = search needs
@@ -31,11 +21,11 @@ block-refusal-requires c κs = search needs
 returns : tie.Need-returns
 returns c =
     let n = c .before .block-refusal .result in
-    (number (c .before), (sym (value-refused n _ (c .if1 .taken)), sym (answer-refused n nan (c .if1 .taken))))
+    (c .before .block-refusal .ensures, (sym (value-refused n _ (c .if1 .taken)), sym (answer-refused n nan (c .if1 .taken))))
 
 objective-requires : tie.Need-objective-requires
 objective-requires c κs =
-    let s = S (c .before) in
+    let s = S c in
     (ready-of _ _ _ _ (s .pre) (passed c), s .pre .eight)
 
 returns-2 : tie.Need-returns-2
@@ -46,4 +36,4 @@ returns-2 c =
 pub objective-spec : {M : Type 1} → statement M
 objective-spec =
     tie.close
-    (tie.spec joint-number-requires block-refusal-requires returns objective-requires returns-2)
+    (tie.spec block-refusal-requires returns objective-requires returns-2)

@@ -1,4 +1,4 @@
--- `objective_count` meets its contract: turn after turn one chain's pairs more. Assumes nothing.
+-- `objective_count` meets its contract: turn after turn one chain's pairs more.
 use mathlib.Core.Path.{_≡_, refl, sym, ap, _∙_}
 use Prim.Native.Nat.{ℕ, _+_, _-_, _*_, _≤_, _<_}
 use native.Mathlib.Omega.{arith}

@@ -1,4 +1,4 @@
--- `pair_count` meets its contract: turn after turn one row more. Assumes nothing.
+-- `pair_count` meets its contract: turn after turn one row more.
 use mathlib.Core.Path.{_≡_, sym, ap, _∙_}
 use Prim.Native.Nat.{ℕ, _-_, _*_, _≤_}
 use native.Mathlib.Omega.{arith}

@@ -1,4 +1,4 @@
--- `is_raised` meets its contract. Assumes nothing.
+-- `is_raised` meets its contract.
 use borrow.Author.Tests.{eq-eqb, ne-eqb}
 use Rattle.objective_master.specs.Standing.{isRaised}
 use Rattle.objective_master.proofs.losses.is_raised.Statement.{statement}

@@ -1,4 +1,4 @@
--- `off_goal` meets its contract. Assumes nothing.
+-- `off_goal` meets its contract.
 use Rattle.objective_master.specs.Losses.{offGoal, goalQuat, goalPosition}
 use borrow.Author.Needs.{needs}
 use Rattle.objective_master.proofs.losses.off_goal.Statement.{statement}

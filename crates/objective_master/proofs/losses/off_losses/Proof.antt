@@ -1,4 +1,4 @@
--- `off_losses` meets its contract. Assumes nothing.
+-- `off_losses` meets its contract.
 use Rattle.spacetime.specs.Floats.{flatVec}
 use Rattle.objective_master.specs.Losses.{offLosses, offLoss, componentOf}
 use borrow.Author.Needs.{needs}

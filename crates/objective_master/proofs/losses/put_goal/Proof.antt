@@ -1,4 +1,4 @@
--- `put_goal` meets its contract: stored, or standing already. Assumes nothing.
+-- `put_goal` meets its contract: stored, or standing already.
 use mathlib.Core.Path.{sym, ap, _∙_}
 use Prim.Native.Nat.{_*_}
 use denote.Ref.{now}

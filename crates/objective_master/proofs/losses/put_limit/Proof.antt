@@ -1,4 +1,4 @@
--- `put_limit` meets its contract: stored, or standing already. Assumes nothing.
+-- `put_limit` meets its contract: stored, or standing already.
 use mathlib.Core.Path.{sym, ap, _∙_}
 use native.Mathlib.Omega.{arith}
 use denote.Ref.{now}

@@ -1,4 +1,4 @@
--- `put_limits` meets its contract: turn after turn one joint more. Assumes nothing.
+-- `put_limits` meets its contract: turn after turn one joint more.
 use mathlib.Core.Path.{_≡_, refl, ap, _∙_}
 use mathlib.Core.List.{List}
 use Prim.Native.Nat.{ℕ, _+_, _-_, _*_, _≤_}

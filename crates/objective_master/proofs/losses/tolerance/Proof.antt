@@ -1,4 +1,4 @@
--- `tolerance` meets its contract. Assumes nothing.
+-- `tolerance` meets its contract.
 use mathlib.Core.Path.{refl}
 use Rattle.objective_master.specs.Losses.{toleranceAt}
 use borrow.Author.Needs.{needs}

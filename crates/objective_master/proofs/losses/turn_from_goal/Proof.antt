@@ -1,4 +1,4 @@
--- `turn_from_goal` meets its contract. Assumes nothing.
+-- `turn_from_goal` meets its contract.
 use Rattle.objective_master.specs.Losses.{turnFromGoal, goalQuat}
 use borrow.Author.Needs.{needs}
 use Rattle.objective_master.proofs.losses.turn_from_goal.Statement.{statement}

@@ -1,4 +1,4 @@
--- `turn_losses` meets its contract. Assumes nothing.
+-- `turn_losses` meets its contract.
 use Rattle.spacetime.specs.Floats.{flatVec}
 use Rattle.objective_master.specs.Losses.{turnLosses, turnLoss, componentOf}
 use borrow.Author.Needs.{needs}

@@ -1,4 +1,4 @@
--- `walked_again` meets its contract. Assumes nothing.
+-- `walked_again` meets its contract.
 use borrow.Author.Tests.{le-leb, lt-leb}
 use Rattle.objective_master.specs.Standing.{walkedAgain}
 use Rattle.objective_master.proofs.losses.walked_again.Statement.{statement}

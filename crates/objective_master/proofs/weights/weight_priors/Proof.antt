@@ -1,4 +1,4 @@
--- `weight_priors` meets its contract. Assumes nothing.
+-- `weight_priors` meets its contract.
 use mathlib.Core.Path.{refl}
 use Rattle.objective_master.specs.Weights.{weightPriors}
 use Rattle.objective_master.proofs.weights.weight_priors.Statement.{statement}

@@ -1,4 +1,4 @@
--- `entries` meets its contract: link after link what its joint adds. Assumes nothing.
+-- `entries` meets its contract: link after link what its joint adds.
 use mathlib.Core.Path.{_≡_}
 use Prim.Native.Nat.{_+_, _-_, _≤_}
 use native.Mathlib.Omega.{arith}

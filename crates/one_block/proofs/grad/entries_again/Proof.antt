@@ -1,4 +1,4 @@
--- `entries_again` meets its contract. Assumes nothing.
+-- `entries_again` meets its contract.
 use native.Mathlib.Omega.{arith}
 use mathlib.Core.Path.{sym}
 use denote.Ref.{now}

@@ -1,4 +1,4 @@
--- `first_walk` meets its contract: it is `walk` over all links, from the origin. Assumes nothing.
+-- `first_walk` meets its contract: it is `walk` over all links, from the origin.
 use mathlib.Core.Path.{_≡_, sym}
 use Prim.Native.Nat.{_-_}
 use native.Mathlib.Omega.{arith}

@@ -1,4 +1,4 @@
--- `raise` meets its contract. Assumes nothing.
+-- `raise` meets its contract.
 use mathlib.Core.Path.{refl}
 use Rattle.gradient.specs.Gradient.{raisedBy}
 use borrow.Author.Needs.{needs}

@@ -1,4 +1,4 @@
--- `walk` meets its contract: turn after turn one entry more. Assumes nothing.
+-- `walk` meets its contract: turn after turn one entry more.
 use mathlib.Core.Path.{_≡_, refl, sym, ap, _∙_}
 use Prim.Native.Nat.{ℕ, _+_, _-_, _*_, _≤_, _<_}
 use native.Mathlib.Omega.{arith}

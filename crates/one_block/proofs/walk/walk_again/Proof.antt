@@ -1,4 +1,4 @@
--- `walk_again` meets its contract: it is `walk`, and the block comes back as it was lent. Assumes nothing.
+-- `walk_again` meets its contract: it is `walk`, and the block comes back as it was lent.
 use mathlib.Core.Path.{refl, ap, _∙_}
 use Prim.Native.Nat.{_-_}
 use native.Mathlib.Omega.{arith}

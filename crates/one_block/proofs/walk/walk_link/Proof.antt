@@ -1,4 +1,4 @@
--- `walk_link` meets its contract: one entry in each list, and the place after it. Assumes nothing.
+-- `walk_link` meets its contract: one entry in each list, and the place after it.
 use mathlib.Core.Path.{sym}
 use native.Mathlib.Omega.{arith}
 use denote.Ref.{now}

@@ -1,4 +1,4 @@
--- `entries` meets its contract: by what its calls ensure. Assumes nothing.
+-- `entries` meets its contract: by what its calls ensure.
 use mathlib.Core.Path.{ap, _∙_}
 use mathlib.Core.List.{List}
 use Prim.Native.Nat.{ℕ}

@@ -1,4 +1,4 @@
--- `gradient_one_block` meets its contract: a refusal writes nothing; else the outputs are the bytes of value, slopes and record. Assumes nothing.
+-- `gradient_one_block` meets its contract: a refusal writes nothing; else the outputs are the bytes of value, slopes and record.
 use mathlib.Core.Path.{_≡_, refl, sym, ap, _∙_}
 use mathlib.Core.List.{List, [], _∷_}
 use Prim.Native.Nat.{ℕ, _*_}

@@ -1,8 +1,7 @@
--- `one_block_number` meets its contract: 1 to 8, then 9 for each output. Assumes nothing.
+-- `one_block_number` meets its contract: 1 to 8, then 9 for each output.
 use mathlib.Core.Path.{_≡_, sym, ap, _∙_}
 use native.Mathlib.Omega.{arith}
 use denote.Ref.{now}
-use Rattle.sheet.specs.Chain.{joint-last}
 use Rattle.refusals.specs.Lowest.{firstOf, first-zero, first-some}
 use Rattle.refusals.specs.Refusal.{roomRefusal}
 use Rattle.one_block_calls.specs.Room.{recordRefusal}
@@ -36,8 +35,8 @@ returns c =
     let e = c .before .aimed-number .ensures in
     e ∙ sym (first-some _ _ (λ z. c .if1 .taken (e ∙ z)))
 
-joint-number-requires : tie.Need-joint-number-requires
-joint-number-requires c κs = search needs
+block-length-requires : tie.Need-block-length-requires
+block-length-requires c κs = search needs
 
 room-requires : tie.Need-room-requires
 room-requires c κs = search needs
@@ -76,7 +75,7 @@ returns-2 : tie.Need-returns-2
 unfolding oneBlockNumber
 returns-2 c =
     let e = c .before .before .before .before .before .before .before .before .before .before .before .before in
-    let n = c .before .before .before .before .before .before .before .before .before .before .before .joint-number .ensures ∙ joint-last (now (S e .args .codes)) in
+    let n = c .before .before .before .before .before .before .before .before .before .before .before .block-length .ensures in
     let first = c .before .before .before .before .before .before .before .before .before .room-refusal .ensures ∙ ap (roomRefusal 1) (c .before .before .before .before .before .before .before .before .before .before .room .ensures) in
     let second = c .before .before .before .before .before .before .before .room-refusal2 .ensures ∙ same-two roomRefusal n (c .before .before .before .before .before .before .before .before .room2 .ensures) in
     let third = c .before .before .record-refusal .ensures
@@ -89,7 +88,7 @@ one-block-number-spec =
     (tie.spec
     aimed-number-requires
     returns
-    joint-number-requires
+    block-length-requires
     room-requires
     room-refusal-requires
     room-requires-2

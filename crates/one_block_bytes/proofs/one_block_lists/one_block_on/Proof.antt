@@ -1,4 +1,4 @@
--- `one_block_on` meets its contract: the gradient and the record of what the history and the sheet give. Assumes nothing.
+-- `one_block_on` meets its contract: the gradient and the record of what the history and the sheet give.
 use mathlib.Core.Path.{_≡_, sym, ap, _∙_, subst}
 use mathlib.Core.List.{List}
 use Prim.Native.Nat.{ℕ, _*_, _≤_}

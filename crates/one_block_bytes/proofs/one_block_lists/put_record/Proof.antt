@@ -1,4 +1,4 @@
--- `put_record` meets its contract: each list goes to its own output. Assumes nothing.
+-- `put_record` meets its contract: each list goes to its own output.
 use mathlib.Core.Path.{_≡_, sym}
 use Prim.Native.Nat.{_*_}
 use native.Mathlib.Omega.{arith}

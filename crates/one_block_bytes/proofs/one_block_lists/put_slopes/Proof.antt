@@ -1,4 +1,4 @@
--- `put_slopes` meets its contract: value and slopes go each to its own output. Assumes nothing.
+-- `put_slopes` meets its contract: value and slopes go each to its own output.
 use mathlib.Core.Path.{_≡_, sym}
 use native.Mathlib.Omega.{arith}
 use denote.Ref.{now}

@@ -1,5 +1,6 @@
--- `gradient_one_block` meets its contract: a refusal writes nothing; else what is lent is ready. Assumes nothing.
+-- `gradient_one_block` meets its contract: a refusal writes nothing; else what is lent is ready.
 use mathlib.Core.Path.{_≡_, refl, sym, _∙_}
+use native.Mathlib.Omega.{arith}
 use denote.Ref.{now}
 use lib.Ieee.{nan}
 use lib.ListN.{length}
@@ -14,9 +15,16 @@ use Rattle.one_block_calls.proofs.slopes.gradient_one_block.Tie as tie
 abbrev S : tie.Else1 → tie.Start
 S c = c .before .before .before .before .before .before .before .before .before .before .before .before .before .before .before .before .before
 
+-- a number that is not 0 is a refusal, and only 0 goes on
+stopped : (c : tie.Then1) → c .before .one-block-refusal .result ≡ 0 → ⊥
+stopped c z = omega (arith, c .if1 .taken, z)
+
+goes-on : (c : tie.Else1) → c .before .one-block-refusal .result ≡ 0
+goes-on c = omega (arith, c .if1 .left)
+
 number : (c : tie.Else1) → oneBlockRefusal (now (S c .args .sizes)) (now (S c .args .codes)) (now (S c .args .block))
     (length (now (S c .args .slopes))) (length (now (S c .args .record-joints))) (length (now (S c .args .record-links))) (length (now (S c .args .record-poses))) ≡ 0
-number c = sym (c .before .one-block-refusal .ensures) ∙ c .if1 .left
+number c = sym (c .before .one-block-refusal .ensures) ∙ goes-on c
 
 one-block-refusal-requires : tie.Need-one-block-refusal-requires
 one-block-refusal-requires c κs = c .before .before .before .before .before .before .before .before .before .before .before .before .before .before .before .pre .arms
@@ -28,7 +36,7 @@ returns : tie.Need-returns
 returns c =
     let w = c .before .one-block-refusal in
     let n = w .result in
-    let t = c .if1 .taken in
+    let t = stopped c in
     (w .ensures, ((sym (value-refused n _ t), sym (answer-refused n nan t)), (refl, (sym (refused n _ _ t), (sym (refused n _ _ t), sym (refused n _ _ t), sym (refused n _ _ t))))))
 
 gradient-requires : tie.Need-gradient-requires

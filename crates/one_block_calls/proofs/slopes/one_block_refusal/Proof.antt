@@ -1,18 +1,16 @@
--- `one_block_refusal` meets its contract: by what its calls ensure. Assumes nothing.
-use mathlib.Core.Path.{_≡_, _∙_}
+-- `one_block_refusal` meets its contract: by what its calls ensure.
 use native.Mathlib.Omega.{arith}
 use denote.Ref.{now}
-use Rattle.sheet.specs.Chain.{joints, joint-last}
 use Rattle.one_block_calls.specs.Room.{oneBlockRefusal, entries-most}
 use borrow.Author.Needs.{needs}
 use Rattle.one_block_calls.proofs.slopes.one_block_refusal.Statement.{statement}
 use Rattle.one_block_calls.proofs.slopes.one_block_refusal.Tie as tie
 
-joint-number-requires : tie.Need-joint-number-requires
-joint-number-requires c κs = search needs
-
 block-refusal-requires : tie.Need-block-refusal-requires
 block-refusal-requires c κs = search needs
+
+block-length-requires : tie.Need-block-length-requires
+block-length-requires c κs = search needs
 
 room-refusal-requires : tie.Need-room-refusal-requires
 room-refusal-requires c κs = search needs
@@ -35,18 +33,14 @@ first-of-requires-2 c κs = search needs
 
 returns : tie.Need-returns
 unfolding oneBlockRefusal
-returns c =
-    let j = c .before .before .before .before .before .before in
-    let cs = now (j .before .before .before .before .before .args .codes) in
-    let e : j .joint-number .result ≡ joints cs = j .joint-number .ensures ∙ joint-last cs in
-    cc
+returns c = cc
 
 pub one-block-refusal-spec : {M : Type 1} → statement M
 one-block-refusal-spec =
     tie.close
     (tie.spec
-    joint-number-requires
     block-refusal-requires
+    block-length-requires
     room-refusal-requires
     entries-requires
     record-refusal-requires

@@ -1,4 +1,4 @@
--- `record_refusal` meets its contract: by what its calls ensure. Assumes nothing.
+-- `record_refusal` meets its contract: by what its calls ensure.
 use Rattle.one_block_calls.specs.Room.{recordRefusal}
 use borrow.Author.Needs.{needs}
 use Rattle.one_block_calls.proofs.slopes.record_refusal.Statement.{statement}
@@ -10,8 +10,8 @@ room-refusal-requires c κs = search needs
 room-refusal-requires-2 : tie.Need-room-refusal-requires-2
 room-refusal-requires-2 c κs = search needs
 
-mul-room-refusal : tie.Need-mul-room-refusal
-mul-room-refusal c = search needs
+record-poses-length-requires : tie.Need-record-poses-length-requires
+record-poses-length-requires c κs = search needs
 
 room-refusal-requires-3 : tie.Need-room-refusal-requires-3
 room-refusal-requires-3 c κs = search needs
@@ -32,7 +32,7 @@ record-refusal-spec =
     (tie.spec
     room-refusal-requires
     room-refusal-requires-2
-    mul-room-refusal
+    record-poses-length-requires
     room-refusal-requires-3
     first-of-requires
     first-of-requires-2

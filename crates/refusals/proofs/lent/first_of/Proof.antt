@@ -1,4 +1,4 @@
--- `lent::first_of` meets its contract: each return follows the tests before it. Assumes nothing.
+-- `lent::first_of` meets its contract: each return follows the tests before it.
 use borrow.Author.Tests.{eq-eqb, ne-eqb}
 use Rattle.refusals.specs.Lowest.{firstOf}
 use Rattle.refusals.proofs.lent.first_of.Statement.{statement}

@@ -1,4 +1,4 @@
--- `lent::goal_fits` meets its contract: each return follows the tests before it. Assumes nothing.
+-- `lent::goal_fits` meets its contract: each return follows the tests before it.
 use mathlib.Core.Path.{sym, _∙_}
 use borrow.Author.Tests.{not-true, not-false}
 use Rattle.refusals.specs.Refusal.{goalFits}

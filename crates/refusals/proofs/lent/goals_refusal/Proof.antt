@@ -1,5 +1,5 @@
 -- `lent::goals_refusal` meets its contract. The loop carries the answer for the chains passed.
--- The measure is the number of chains left. Assumes nothing.
+-- The measure is the number of chains left.
 use mathlib.Core.Path.{_≡_, sym, ap, _∙_}
 use mathlib.Core.Bool.{true, false}
 use Prim.Native.Nat.{ℕ, _*_, _/_, _%_, _-_, _≤_}

@@ -1,4 +1,4 @@
--- `lent::room_refusal` meets its contract: each return follows the tests before it. Assumes nothing.
+-- `lent::room_refusal` meets its contract: each return follows the tests before it.
 use borrow.Author.Tests.{lt-ltb, le-ltb}
 use Rattle.refusals.specs.Refusal.{roomRefusal}
 use Rattle.refusals.proofs.lent.room_refusal.Statement.{statement}

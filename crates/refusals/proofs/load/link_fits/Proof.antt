@@ -1,4 +1,4 @@
--- `load::link_fits` meets its contract: each return follows the tests before it. Assumes nothing.
+-- `load::link_fits` meets its contract: each return follows the tests before it.
 use mathlib.Core.Path.{sym, _∙_}
 use Rattle.refusals.specs.Refusal.{linkFits}
 use borrow.Author.Needs.{needs}

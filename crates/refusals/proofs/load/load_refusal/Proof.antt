@@ -1,4 +1,4 @@
--- `load::load_refusal` meets its contract: the first four numbers, then the fifth and the sixth. Assumes nothing.
+-- `load::load_refusal` meets its contract: the first four numbers, then the fifth and the sixth.
 use mathlib.Core.Path.{_≡_, sym, ap, _∙_}
 use mathlib.Core.Bool.{cond}
 use Prim.Native.Nat.{ℕ}

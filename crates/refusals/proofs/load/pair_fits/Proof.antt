@@ -1,4 +1,4 @@
--- `load::pair_fits` meets its contract: each return follows the tests before it. Assumes nothing.
+-- `load::pair_fits` meets its contract: each return follows the tests before it.
 use mathlib.Core.Path.{sym, _∙_}
 use Rattle.refusals.specs.Refusal.{pairFits}
 use borrow.Author.Needs.{needs}

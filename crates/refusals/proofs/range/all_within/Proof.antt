@@ -1,5 +1,5 @@
 -- `range::all_within` meets its contract. The loop carries the answer for the floats passed.
--- The measure is the number of floats left. Assumes nothing.
+-- The measure is the number of floats left.
 use mathlib.Core.Path.{_≡_, sym, ap, _∙_}
 use Prim.Native.Nat.{_-_, _≤_}
 use native.Mathlib.Omega.{arith}

@@ -1,4 +1,4 @@
--- `range::is_between` meets its contract: each return follows the tests before it. Assumes nothing.
+-- `range::is_between` meets its contract: each return follows the tests before it.
 use borrow.Author.Tests.{le-leb, lt-leb}
 use Rattle.refusals.specs.Range.{between}
 use Rattle.refusals.proofs.range.is_between.Statement.{statement}

@@ -1,4 +1,4 @@
--- `range::is_within` meets its contract: each return follows the tests before it. Assumes nothing.
+-- `range::is_within` meets its contract: each return follows the tests before it.
 use Rattle.refusals.specs.Range.{within}
 use Rattle.refusals.proofs.range.is_within.Statement.{statement}
 use Rattle.refusals.proofs.range.is_within.Tie as tie

@@ -1,4 +1,4 @@
--- `range::near_one` meets its contract: each return follows the tests before it. Assumes nothing.
+-- `range::near_one` meets its contract: each return follows the tests before it.
 use Rattle.refusals.specs.Range.{nearOne}
 use Rattle.refusals.proofs.range.near_one.Statement.{statement}
 use Rattle.refusals.proofs.range.near_one.Tie as tie

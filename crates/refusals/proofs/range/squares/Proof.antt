@@ -1,4 +1,4 @@
--- `range::squares` meets its contract by computation. Assumes nothing.
+-- `range::squares` meets its contract by computation.
 use mathlib.Core.Path.{refl}
 use Rattle.refusals.specs.Range.{squaresOf}
 use Rattle.refusals.proofs.range.squares.Statement.{statement}

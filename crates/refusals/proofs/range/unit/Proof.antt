@@ -1,4 +1,4 @@
--- `range::unit` meets its contract, from what the two calls ensure. Assumes nothing.
+-- `range::unit` meets its contract, from what the two calls ensure.
 use mathlib.Core.Path.{ap, _∙_}
 use Rattle.refusals.specs.Range.{nearOne, unitAt}
 use borrow.Author.Needs.{needs}

@@ -1,5 +1,5 @@
 -- `shape::bad_codes` meets its contract. The loop carries the answer for the links passed.
--- The measure is the number of links left. Assumes nothing.
+-- The measure is the number of links left.
 use mathlib.Core.Path.{_≡_, sym, ap, _∙_}
 use mathlib.Core.Bool.{not}
 use Prim.Native.Nat.{_-_, _≤_}
@@ -7,7 +7,7 @@ use native.Mathlib.Omega.{arith}
 use lib.ListN.{length}
 use denote.Ref.{now}
 use Rattle.refusals.specs.Range.{every, every-none, every-turn}
-use Rattle.refusals.specs.Refusal.{listedAt, badCodes}
+use Rattle.refusals.specs.Refusal.{listedCode, listedAt, badCodes}
 use borrow.Author.Needs.{needs}
 use Rattle.refusals.proofs.shape.bad_codes.Statement.{statement}
 use Rattle.refusals.proofs.shape.bad_codes.Tie as tie
@@ -21,11 +21,8 @@ abbrev μ-loop : tie.MeasureT-loop
 loop-holds : tie.Need-loop-holds Inv-loop μ-loop
 loop-holds c = (omega arith, sym (every-none _))
 
-mul-is-listed : tie.Need-mul-is-listed Inv-loop μ-loop
-mul-is-listed c = omega arith
-
-shared-slice-read-is-listed : tie.Need-shared-slice-read-is-listed Inv-loop μ-loop
-shared-slice-read-is-listed c = omega arith
+read-requires : tie.Need-read-requires Inv-loop μ-loop
+read-requires c κs = search needs
 
 is-listed-requires : tie.Need-is-listed-requires Inv-loop μ-loop
 is-listed-requires c κs = search needs
@@ -41,7 +38,7 @@ loop-less c = omega arith
 
 loop-again : tie.Need-loop-again Inv-loop μ-loop
 unfolding listedAt
-loop-again c = (omega arith, every-turn _ _ _ _ _ (c .before .before .before .before .loop .inv .1) (c .before .is-listed .ensures) (c .both .ensures))
+loop-again c = (omega arith, every-turn _ _ _ _ _ (c .before .before .before .before .loop .inv .1) (c .before .is-listed .ensures ∙ ap listedCode (c .before .before .read .ensures)) (c .both .ensures))
 
 returns : tie.Need-returns Inv-loop μ-loop
 unfolding badCodes
@@ -54,8 +51,7 @@ bad-codes-spec =
     Inv-loop
     μ-loop
     loop-holds
-    mul-is-listed
-    shared-slice-read-is-listed
+    read-requires
     is-listed-requires
     both-requires
     add-l

@@ -1,5 +1,5 @@
 -- `shape::bad_joints` meets its contract. The loop carries both answers for the chains passed, the next link and its joint.
--- The measure is the number of chains left. Assumes nothing.
+-- The measure is the number of chains left.
 use mathlib.Core.Path.{_≡_, refl, sym, ap, _∙_}
 use mathlib.Core.Bool.{not, _||_}
 use Prim.Native.Nat.{ℕ, _+_, _-_, _≤_}
@@ -8,9 +8,10 @@ use lib.Dec.{leb, eqb}
 use lib.ListN.{length, getD}
 use denote.Ref.{now}
 use borrow.Author.Tests.{lt-ltb, le-ltb, not-true, not-false}
-use Rattle.sheet.specs.Chain.{chainStart, chain-start-next, chain-start-total, chain-start-mono, jointOf, joints, joint-mono, joint-last, joint-zero}
+use Rattle.sheet.specs.Chain.{chainStart, chain-start-total, jointOf, joints, joint-last, joint-zero}
 use Rattle.refusals.specs.Range.{every, every-none, every-turn}
 use Rattle.refusals.specs.Refusal.{chainJoints, twoJoints, laterFits, badJoints}
+use Rattle.refusals.specs.Turn.{next-link, links-inside, next-joint, joint-grows, joints-here}
 use borrow.Author.Needs.{needs}
 use Rattle.refusals.proofs.shape.bad_joints.Statement.{statement}
 use Rattle.refusals.proofs.shape.bad_joints.Tie as tie
@@ -22,35 +23,22 @@ abbrev μ-loop : tie.MeasureT-loop
 μ-loop counts codes most two₀ few₀ link₀ joint₀ c₀ two few link joint c = length counts - c
 
 -- ---- a turn
-next-link : (l : tie.At-loop Inv-loop μ-loop)
-    → l .loop .link + getD (now (l .before .before .before .before .args .counts)) (l .loop .c) 0 ≡ chainStart (now (l .before .before .before .before .args .counts)) (l .loop .c + 1)
-next-link l = omega (arith, l .loop .inv .3, chain-start-next (now (l .before .before .before .before .args .counts)) (l .loop .c))
-
 inside : (c : tie.In-loop Inv-loop μ-loop)
     → c .before .loop .link + getD (now (c .before .before .before .before .before .args .counts)) (c .before .loop .c) 0 ≤ length (now (c .before .before .before .before .before .args .codes))
 inside c =
     let s = c .before .before .before .before .before in
-    let ns = now (s .args .counts) in
-    let k = c .before .loop .c + 1 in
-    let h : k ≤ length ns = omega (arith, c .loop-test .taken) in
-    omega (arith, next-link (c .before), chain-start-mono ns k (length ns) h, chain-start-total ns, s .pre .1)
-
-next-joint : (c : tie.After-joint-number Inv-loop μ-loop)
-    → c .joint-number .result ≡ jointOf (now (c .before .before .before .before .before .before .before .args .codes)) (chainStart (now (c .before .before .before .before .before .before .before .args .counts)) (c .before .before .before .loop .c + 1))
-next-joint c = c .joint-number .ensures ∙ ap (jointOf (now (c .before .before .before .before .before .before .before .args .codes))) (next-link (c .before .before .before))
+    links-inside (now (s .args .counts)) (now (s .args .codes)) (c .before .loop .c) (c .before .loop .link) (c .before .loop .inv .3) (c .loop-test .taken) (s .pre .1)
 
 grows : (c : tie.After-joint-number Inv-loop μ-loop) → c .before .before .before .loop .joint ≤ c .joint-number .result
 grows c =
     let l = c .before .before .before in
-    let ns = now (l .before .before .before .before .args .counts) in
-    let k = l .loop .c in
-    let h : chainStart ns k ≤ chainStart ns (k + 1) = omega (arith, chain-start-next ns k) in
-    omega (arith, l .loop .inv .4, next-joint c, joint-mono (now (l .before .before .before .before .args .codes)) _ _ h)
+    joint-grows _ _ (l .loop .c) (l .loop .link) (l .loop .inv .3) _ _ (l .loop .inv .4) (c .joint-number .ensures)
 
-joints-here : (c : tie.After-joint-number Inv-loop μ-loop)
+counted : (c : tie.After-joint-number Inv-loop μ-loop)
     → c .joint-number .result - c .before .before .before .loop .joint ≡ chainJoints (now (c .before .before .before .before .before .before .before .args .counts)) (now (c .before .before .before .before .before .before .before .args .codes)) (c .before .before .before .loop .c)
-unfolding chainJoints
-joints-here c = rw (next-joint c, c .before .before .before .loop .inv .4)
+counted c =
+    let l = c .before .before .before in
+    joints-here _ _ (l .loop .c) (l .loop .link) (l .loop .inv .3) _ _ (l .loop .inv .4) (c .joint-number .ensures)
 
 -- ---- the end
 last : (c : tie.After-loop Inv-loop μ-loop) → c .before .loop .c ≡ length (now (c .before .before .before .before .before .args .counts))
@@ -124,10 +112,10 @@ loop-again c =
     let l = c .before .before .before .before .before .before in
     let most = getD (now (l .before .before .before .before .args .counts)) 0 0 in (
       omega arith,
-      every-turn _ _ _ _ _ (l .loop .inv .1) (ap (leb 2) (joints-here n)) (c .before .before .both .ensures),
-      every-turn _ _ _ _ _ (l .loop .inv .2) (c .before .later-fits .ensures ∙ ap (λ (k : ℕ). eqb (l .loop .c) 0 || leb k most) (joints-here n)) (c .both2 .ensures),
-      next-link l,
-      next-joint n,
+      every-turn _ _ _ _ _ (l .loop .inv .1) (ap (leb 2) (counted n)) (c .before .before .both .ensures),
+      every-turn _ _ _ _ _ (l .loop .inv .2) (c .before .later-fits .ensures ∙ ap (λ (k : ℕ). eqb (l .loop .c) 0 || leb k most) (counted n)) (c .both2 .ensures),
+      next-link (now (l .before .before .before .before .args .counts)) (now (l .before .before .before .before .args .codes)) (l .loop .c) (l .loop .link) (l .loop .inv .3),
+      next-joint _ _ (l .loop .c) (l .loop .link) (l .loop .inv .3) (l .loop .joint) _ (l .loop .inv .4) (n .joint-number .ensures),
     )
 
 returns : tie.Need-returns Inv-loop μ-loop

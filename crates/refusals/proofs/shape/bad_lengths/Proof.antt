@@ -1,4 +1,4 @@
--- `shape::bad_lengths` meets its contract: each return follows the tests before it. Assumes nothing.
+-- `shape::bad_lengths` meets its contract: each return follows the tests before it.
 use mathlib.Core.Path.{_≡_, sym, ap, _∙_}
 use mathlib.Core.Bool.{false, true, not}
 use Prim.Native.Nat.{ℕ, _*_}

@@ -1,4 +1,4 @@
--- `shape::bad_sizes` meets its contract: each return follows the tests before it. Assumes nothing.
+-- `shape::bad_sizes` meets its contract: each return follows the tests before it.
 use mathlib.Core.Path.{sym, ap, _∙_}
 use mathlib.Core.Bool.{not}
 use mathlib.Core.List.{List}

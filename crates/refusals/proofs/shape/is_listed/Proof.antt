@@ -1,4 +1,4 @@
--- `shape::is_listed` meets its contract: an answer for each kind. Assumes nothing.
+-- `shape::is_listed` meets its contract: an answer for each kind.
 use mathlib.Core.Path.{sym, ap, _∙_}
 use Rattle.refusals.specs.Refusal.{listedKind, listedCode}
 use borrow.Author.Needs.{needs}

@@ -1,4 +1,4 @@
--- `shape::later_fits` meets its contract: each return follows the tests before it. Assumes nothing.
+-- `shape::later_fits` meets its contract: each return follows the tests before it.
 use borrow.Author.Tests.{eq-eqb, ne-eqb}
 use Rattle.refusals.proofs.shape.later_fits.Statement.{statement}
 use Rattle.refusals.proofs.shape.later_fits.Tie as tie

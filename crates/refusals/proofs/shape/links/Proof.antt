@@ -1,4 +1,4 @@
--- `shape::links` meets its contract: the part from 1 to the end is the list without its first. Assumes nothing.
+-- `shape::links` meets its contract: the part from 1 to the end is the list without its first.
 use mathlib.Core.Path.{_≡_}
 use mathlib.Core.List.{List, [], _∷_}
 use Prim.Native.Nat.{ℕ, _-_}

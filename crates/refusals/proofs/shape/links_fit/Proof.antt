@@ -1,5 +1,5 @@
 -- `shape::links_fit` meets its contract. The loop carries the answer for the chains passed.
--- The measure is the number of chains left. Assumes nothing.
+-- The measure is the number of chains left.
 use mathlib.Core.Path.{_≡_, sym, ap, _∙_}
 use Prim.Native.Nat.{_-_, _≤_}
 use native.Mathlib.Omega.{arith}

@@ -1,4 +1,4 @@
--- `shape::shape_refusal` meets its contract: each return follows the tests before it. Assumes nothing.
+-- `shape::shape_refusal` meets its contract: each return follows the tests before it.
 use mathlib.Core.Path.{_≡_, sym, ap, _∙_}
 use mathlib.Core.Bool.{false}
 use mathlib.Core.List.{List}

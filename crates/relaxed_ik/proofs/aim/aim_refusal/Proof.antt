@@ -1,4 +1,4 @@
--- `aim_refusal` meets its contract: each return follows the tests before it. Assumes nothing.
+-- `aim_refusal` meets its contract: each return follows the tests before it.
 use mathlib.Core.Path.{refl}
 use borrow.Author.Tests.{not-true, not-false}
 use Rattle.relaxed_ik.specs.Aim.{aimNumber}

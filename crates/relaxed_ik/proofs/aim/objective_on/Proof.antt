@@ -1,4 +1,4 @@
--- `objective_on` meets its contract: the parts in use are an accepted sheet's. Assumes nothing.
+-- `objective_on` meets its contract: the parts in use are an accepted sheet's.
 use mathlib.Core.Path.{sym, _∙_}
 use Prim.Native.Nat.{_*_}
 use native.Mathlib.Omega.{arith}
@@ -73,7 +73,7 @@ returns-2 c =
     let x = now (a .joints) in
     let m = c .objective in
     let n = e .before .before .in-use .result in (
-      m .ensures .0 ∙ parts-are (now (a .sizes)) (now (a .codes)) (now (a .floats)) n (U e) (λ ns ks gs. blockRefusal (joints ks) x)
+      m .ensures .0 ∙ parts-are (now (a .sizes)) (now (a .codes)) (now (a .floats)) n (U e) (λ ns ks gs. blockRefusal ks x)
           ∙ sym (aim-passed _ _ _ (e .before .before .in-use .ensures) _ _ _ (e .before .aim-refusal .ensures) _ (e .if1 .left)),
       (
         m .ensures .1 .0 ∙ parts-are (now (a .sizes)) (now (a .codes)) (now (a .floats)) n (U e) (λ ns ks gs. valueIf (numberOf (m .result)) (valueAt (now (a .weights)) (given ns ks (now (a .limits)) (now (a .goals)) (now (a .xopt)) (now (a .prev-state)) (now (a .prev-state2))) gs x)),

@@ -1,13 +1,12 @@
--- `block_on` meets its contract: each return follows the test. Assumes nothing.
+-- `block_on` meets its contract: each return follows the test.
 use mathlib.Core.Path.{_≡_, sym, ap, _∙_}
+use mathlib.Core.List.{List}
 use Prim.Native.Nat.{ℕ}
 use native.Mathlib.Omega.{arith}
 use denote.Ref.{now}
 use lib.ListN.{length, take}
 use lib.Seq.{length-take-le}
-use Rattle.sheet.specs.Chain.{jointOf, joints, joint-last}
 use Rattle.refusals.specs.Refusal.{blockRefusal}
-use Rattle.relaxed_ik.specs.State.{codesUsed}
 use Rattle.relaxed_ik.specs.Kept.{blockKept, arms-there, no-arms, used, unused, codes-part}
 use borrow.Author.Needs.{needs}
 use Rattle.relaxed_ik.proofs.kept.block_on.Statement.{statement}
@@ -27,11 +26,8 @@ returns : tie.Need-returns
 unfolding blockKept
 returns c = sym (no-arms _ _ _ (unused _ _ _ (c .before .before .in-use .ensures) (c .if1 .taken)))
 
-slice-aggregate-joint-number : tie.Need-slice-aggregate-joint-number
-slice-aggregate-joint-number c = sym (part (c .before))
-
-joint-number-requires : tie.Need-joint-number-requires
-joint-number-requires c κs = omega (arith, part (c .before))
+slice-aggregate-block-refusal : tie.Need-slice-aggregate-block-refusal
+slice-aggregate-block-refusal c = sym (part (c .before))
 
 block-refusal-requires : tie.Need-block-refusal-requires
 block-refusal-requires c κs = search needs
@@ -39,14 +35,12 @@ block-refusal-requires c κs = search needs
 returns-2 : tie.Need-returns-2
 unfolding blockKept
 returns-2 c =
-    let e = c .before .before .before in
+    let e = c .before .before in
     let s = e .before .before .before .before .before .before in
     let u = used _ _ _ (e .before .before .in-use .ensures) (e .if1 .left) in
-    let n = e .before .before .in-use .result .links in
-    let j : c .before .joint-number .result ≡ joints (codesUsed (now (s .args .sizes)) (now (s .args .codes))) =
-    c .before .joint-number .ensures ∙ ap (jointOf (take n (now (s .args .codes)))) (sym (part e)) ∙ joint-last (take n (now (s .args .codes)))
-    ∙ ap joints (codes-part (now (s .args .sizes)) (now (s .args .codes)) (now (s .args .joints)) (e .before .before .in-use .result) u) in
-    c .block-refusal .ensures ∙ ap (λ (k : ℕ). blockRefusal k (now (s .args .joints))) j ∙ sym (arms-there _ _ _ (u .have))
+    c .block-refusal .ensures
+    ∙ ap (λ (ks : List ℕ). blockRefusal ks (now (s .args .joints))) (codes-part (now (s .args .sizes)) (now (s .args .codes)) (now (s .args .joints)) (e .before .before .in-use .result) u)
+    ∙ sym (arms-there _ _ _ (u .have))
 
 pub block-on-spec : {M : Type 1} → statement M
 block-on-spec =
@@ -54,7 +48,6 @@ block-on-spec =
     (tie.spec
     in-use-requires
     returns
-    slice-aggregate-joint-number
-    joint-number-requires
+    slice-aggregate-block-refusal
     block-refusal-requires
     returns-2)

@@ -1,4 +1,4 @@
--- `goals_on` meets its contract: each return follows the test. Assumes nothing.
+-- `goals_on` meets its contract: each return follows the test.
 use mathlib.Core.Path.{sym, ap, _∙_}
 use denote.Ref.{now}
 use Prim.Native.Nat.{ℕ}

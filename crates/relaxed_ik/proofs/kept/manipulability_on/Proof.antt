@@ -1,4 +1,4 @@
--- `manipulability_on` meets its contract: the parts in use are an accepted sheet's. Assumes nothing.
+-- `manipulability_on` meets its contract: the parts in use are an accepted sheet's.
 use mathlib.Core.Path.{sym, _∙_}
 use Prim.Native.Nat.{_*_}
 use native.Mathlib.Omega.{arith}
@@ -65,7 +65,7 @@ returns-2 c =
     let a = e .before .before .before .before .before .before .before .args in
     let m = c .manipulability in
     let n = e .before .before .in-use .result in (
-      m .ensures .0 ∙ parts-are (now (a .sizes)) (now (a .codes)) (now (a .floats)) n (U e) (λ ns ks gs. blockRefusal (joints ks) (now (a .joints)))
+      m .ensures .0 ∙ parts-are (now (a .sizes)) (now (a .codes)) (now (a .floats)) n (U e) (λ ns ks gs. blockRefusal ks (now (a .joints)))
           ∙ sym (arms-there _ _ _ (U e .have)),
       (
         m .ensures .1 .0 ∙ parts-are (now (a .sizes)) (now (a .codes)) (now (a .floats)) n (U e)

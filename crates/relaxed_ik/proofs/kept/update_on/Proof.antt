@@ -1,4 +1,4 @@
--- `update_on` meets its contract: each return follows the tests before it. Assumes nothing.
+-- `update_on` meets its contract: each return follows the tests before it.
 use mathlib.Core.Path.{sym}
 use borrow.Author.Tests.{not-true, not-false}
 use Rattle.relaxed_ik.specs.Kept.{blockKept, updateKept, arms-there, no-arms, used, unused}

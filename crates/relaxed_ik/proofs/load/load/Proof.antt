@@ -1,4 +1,4 @@
--- `load` meets its contract: a refusal keeps the state; an accepted sheet fits the arrays. Assumes nothing.
+-- `load` meets its contract: a refusal keeps the state; an accepted sheet fits the arrays.
 use mathlib.Core.Path.{_≡_, sym, _∙_}
 use native.Mathlib.Omega.{arith}
 use borrow.Author.Tests.{ne-eqb}

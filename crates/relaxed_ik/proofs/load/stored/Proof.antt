@@ -1,4 +1,4 @@
--- `stored` meets its contract: by what its four copies ensure. Assumes nothing.
+-- `stored` meets its contract: by what its four copies ensure.
 use Rattle.relaxed_ik.specs.Load.{armsOf}
 use borrow.Author.Needs.{needs}
 use Rattle.relaxed_ik.proofs.load.stored.Statement.{statement}

@@ -1,4 +1,4 @@
--- `gradient_one_block_on` meets its contract: the parts in use are an accepted sheet's. Assumes nothing.
+-- `gradient_one_block_on` meets its contract: the parts in use are an accepted sheet's.
 use mathlib.Core.Path.{refl, sym, _∙_}
 use Prim.Native.Nat.{_*_}
 use native.Mathlib.Omega.{arith}

@@ -1,4 +1,4 @@
--- `reset` meets its contract: a refusal keeps the state; else the end poses and the history are those of the block. Assumes nothing.
+-- `reset` meets its contract: a refusal keeps the state; else the end poses and the history are those of the block.
 use mathlib.Core.Path.{_≡_, sym, _∙_}
 use borrow.Author.Tests.{ne-eqb}
 use Rattle.calls.specs.Arms.{taken}

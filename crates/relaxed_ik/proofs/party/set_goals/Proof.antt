@@ -1,4 +1,4 @@
--- `set_goals` meets its contract: a refusal keeps the state; accepted goals fit the array. Assumes nothing.
+-- `set_goals` meets its contract: a refusal keeps the state; accepted goals fit the array.
 use mathlib.Core.Path.{_≡_, sym, _∙_}
 use borrow.Author.Tests.{ne-eqb}
 use Rattle.relaxed_ik.specs.Load.{outcomeOf}

@@ -1,4 +1,4 @@
--- `update` meets its contract: a refusal keeps the state; else the blocks move one back. Assumes nothing.
+-- `update` meets its contract: a refusal keeps the state; else the blocks move one back.
 use mathlib.Core.Path.{_≡_, sym, _∙_}
 use borrow.Author.Tests.{ne-eqb}
 use Rattle.relaxed_ik.specs.Load.{outcomeOf}

@@ -1,4 +1,4 @@
--- `empty` meets its contract: by what `empty_party` ensures. Assumes nothing.
+-- `empty` meets its contract: by what `empty_party` ensures.
 use Rattle.relaxed_ik.specs.State.{emptyArms, emptyState}
 use borrow.Author.Needs.{needs}
 use Rattle.relaxed_ik.proofs.state.empty.Statement.{statement}

@@ -1,4 +1,4 @@
--- `empty_party` meets its contract. Assumes nothing.
+-- `empty_party` meets its contract.
 use mathlib.Core.Path.{refl}
 use Rattle.relaxed_ik.specs.State.{emptyParty}
 use Rattle.relaxed_ik.proofs.state.empty_party.Statement.{statement}

@@ -1,4 +1,4 @@
--- `in_use` meets its contract: each return follows the tests before it. Assumes nothing.
+-- `in_use` meets its contract: each return follows the tests before it.
 use mathlib.Core.Path.{_≡_, sym, ap, _∙_}
 use Prim.Native.Nat.{ℕ, _+_, _-_, _*_}
 use native.Mathlib.Omega.{arith}

@@ -1,8 +1,8 @@
--- `five` meets its contract: the first three outputs are looked at before the fourth, and that before the fifth. Assumes nothing.
+-- `five` meets its contract: the first three outputs are looked at before the fourth, and that before the fifth.
 use mathlib.Core.Path.{sym, ap, _∙_}
 use mathlib.Core.List.{[], _∷_}
 use borrow.Author.Tests.{not-true, not-false}
-use Rattle.replay.specs.Agree.{sameBytes, agrees-not, agrees-next}
+use Rattle.stored_answers.specs.Agree.{sameBytes, agrees-not, agrees-next}
 use borrow.Author.Needs.{needs}
 use Rattle.replay.proofs.agree.five.Statement.{statement}
 use Rattle.replay.proofs.agree.five.Tie as tie

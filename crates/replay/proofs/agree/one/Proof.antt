@@ -1,8 +1,8 @@
--- `one` meets its contract: the number is looked at first, then the output. Assumes nothing.
+-- `one` meets its contract: the number is looked at first, then the output.
 use mathlib.Core.Path.{_≡_, sym, ap, _∙_}
 use mathlib.Core.List.{[]}
 use borrow.Author.Tests.{not-true, not-false}
-use Rattle.replay.specs.Agree.{sameBytes, agrees-none, agrees-not, agrees-next}
+use Rattle.stored_answers.specs.Agree.{sameBytes, agrees-none, agrees-not, agrees-next}
 use Prim.Native.Nat.{_+_}
 use native.Mathlib.Omega.{arith}
 use borrow.Author.Needs.{needs}

@@ -1,8 +1,8 @@
--- `three` meets its contract: the first two outputs are looked at before the third. Assumes nothing.
+-- `three` meets its contract: the first two outputs are looked at before the third.
 use mathlib.Core.Path.{sym, ap, _∙_}
 use mathlib.Core.List.{[], _∷_}
 use borrow.Author.Tests.{not-true, not-false}
-use Rattle.replay.specs.Agree.{sameBytes, agrees-not, agrees-next}
+use Rattle.stored_answers.specs.Agree.{sameBytes, agrees-not, agrees-next}
 use borrow.Author.Needs.{needs}
 use Rattle.replay.proofs.agree.three.Statement.{statement}
 use Rattle.replay.proofs.agree.three.Tie as tie

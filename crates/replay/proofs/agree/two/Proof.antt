@@ -1,8 +1,8 @@
--- `two` meets its contract: the first output is looked at before the second. Assumes nothing.
+-- `two` meets its contract: the first output is looked at before the second.
 use mathlib.Core.Path.{sym, ap, _∙_}
 use mathlib.Core.List.{[], _∷_}
 use borrow.Author.Tests.{not-true, not-false}
-use Rattle.replay.specs.Agree.{sameBytes, agrees-not, agrees-next}
+use Rattle.stored_answers.specs.Agree.{sameBytes, agrees-not, agrees-next}
 use borrow.Author.Needs.{needs}
 use Rattle.replay.proofs.agree.two.Statement.{statement}
 use Rattle.replay.proofs.agree.two.Tie as tie

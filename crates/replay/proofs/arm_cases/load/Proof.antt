@@ -1,4 +1,4 @@
--- `load` meets its contract: by what its calls ensure. Assumes nothing.
+-- `load` meets its contract: by what its calls ensure.
 use Rattle.replay.specs.Arms.{loadAgrees}
 use borrow.Author.Needs.{needs}
 use Rattle.replay.proofs.arm_cases.load.Statement.{statement}

@@ -1,4 +1,4 @@
--- `set_goals` meets its contract: by what its calls ensure. Assumes nothing.
+-- `set_goals` meets its contract: by what its calls ensure.
 use Rattle.replay.specs.Arms.{setGoalsAgrees}
 use borrow.Author.Needs.{needs}
 use Rattle.replay.proofs.arm_cases.set_goals.Statement.{statement}

@@ -1,12 +1,13 @@
--- `update` meets its contract: the call is lent the record's lists, and outputs that are filled. Assumes nothing.
+-- `update` meets its contract: the call is lent the record's lists, and outputs that are filled.
 use mathlib.Core.Path.{ap, _∙_}
 use mathlib.Core.List.{[], _∷_}
 use Rattle.lent_bytes.specs.Lent.{numbersIn, floatsIn, roomIn, bytesOf}
 use Rattle.lent_bytes.specs.SheetLists.{same-two, same-sheet}
 use Rattle.arm_bytes.specs.ArmCalls.{updateNumber, updatedBlocks}
-use Rattle.replay.specs.Same.{same-four}
-use Rattle.replay.specs.Stored.{listOf}
-use Rattle.replay.specs.Agree.{filled-length, left-written, same-answer}
+use Rattle.stored_answers.specs.Same.{same-four}
+use Rattle.stored_answers.specs.Stored.{listOf}
+use Rattle.stored_answers.specs.Agree.{filled-length, left-written, same-answer}
+use Rattle.replay.specs.Table.{updateOutput}
 use Rattle.replay.specs.Arms.{updateAgrees}
 use borrow.Author.Needs.{needs}
 use Rattle.replay.proofs.arm_cases.update.Statement.{statement}
@@ -49,9 +50,9 @@ returns c =
     let z = same-sheet (ap (numbersIn 5) (l .before .before .before .before .before .list .ensures .0)) (ap (numbersIn 64) (l .before .before .before .before .list2 .ensures .0)) (ap (floatsIn 448) (l .before .before .before .list3 .ensures .0)) (ap (floatsIn 32) (l .before .before .list4 .ensures .0)) in
     let h = ap (floatsIn 64) (l .before .list5 .ensures .0) in
     let x = ap (floatsIn 16) (l .list6 .ensures .0) in
-    let n = w .update .ensures .0 ∙ same-four updateNumber z h x (ap roomIn (filled-length (o 6) (b .pre .1))) in
-    c .one .ensures ∙ same-answer _ _ 6 n (ap (λ a. a ∷ [])
-    (w .update .ensures .1 ∙ left-written (o 6) n (b .pre .1) (ap bytesOf (same-two updatedBlocks h x))))
+    let n = w .update .ensures .0 ∙ same-four updateNumber z h x (ap roomIn (filled-length (o updateOutput) (b .pre .1))) in
+    c .one .ensures ∙ same-answer _ _ updateOutput n (ap (λ a. a ∷ [])
+    (w .update .ensures .1 ∙ left-written (o updateOutput) n (b .pre .1) (ap bytesOf (same-two updatedBlocks h x))))
 
 pub update-spec : {M : Type 1} → statement M
 update-spec =

@@ -1,4 +1,5 @@
--- `agrees` meets its contract: by the tests of the call's number. Assumes nothing.
+-- `agrees` meets its contract: by the tests of the call's number.
+use native.Mathlib.Omega.{arith}
 use borrow.Author.Tests.{eq-eqb, ne-eqb, lt-ltb, le-ltb}
 use Rattle.replay.specs.Cases.{callAgrees, recordAgrees}
 use borrow.Author.Needs.{needs}
@@ -27,7 +28,7 @@ returns-2 c =
     rw (← n .number-at .ensures .0, ne-eqb _ 0 (c .before .before .if1 .left), eq-eqb _ 1 (c .before .if2 .taken)) (c .set-goals .ensures)
 
 one-output-requires : tie.Need-one-output-requires
-one-output-requires c κs = search needs
+one-output-requires c κs = (search needs, (omega (arith, c .before .before .if1 .left, c .before .if2 .left), c .if3 .taken))
 
 returns-3 : tie.Need-returns-3
 unfolding recordAgrees callAgrees

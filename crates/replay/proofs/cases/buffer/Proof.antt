@@ -1,6 +1,6 @@
--- `buffer` meets its contract: each byte is the one that it is filled with. Assumes nothing.
+-- `buffer` meets its contract: each byte is the one that it is filled with.
 use mathlib.Core.Path.{refl}
-use Rattle.replay.specs.Agree.{fill}
+use Rattle.stored_answers.specs.Agree.{fill}
 use Rattle.replay.proofs.cases.buffer.Statement.{statement}
 use Rattle.replay.proofs.cases.buffer.Tie as tie
 

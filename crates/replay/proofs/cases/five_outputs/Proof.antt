@@ -1,9 +1,11 @@
--- `five_outputs` meets its contract: the outputs that the call is lent are filled. Assumes nothing.
+-- `five_outputs` meets its contract: the outputs that the call is lent are filled.
 use mathlib.Core.Path.{sym}
+use Prim.Native.Nat.{_+_}
 use native.Mathlib.Omega.{arith}
 use lib.Seq.{length-take-le}
-use Rattle.replay.specs.Stored.{listOf}
-use Rattle.replay.specs.Agree.{front-filled}
+use Rattle.stored_answers.specs.Stored.{listOf}
+use Rattle.stored_answers.specs.Agree.{front-filled}
+use Rattle.replay.specs.Table.{objectiveOutputs}
 use borrow.Author.Needs.{needs}
 use Rattle.replay.proofs.cases.five_outputs.Statement.{statement}
 use Rattle.replay.proofs.cases.five_outputs.Tie as tie
@@ -74,11 +76,11 @@ gradient-one-block-requires c κs =
     let o = listOf (b .args .s .now) (b .args .at) in (
       b .pre,
       (
-        front-filled (o 7) _ 65536 (c .before .before .before .before .before .before .before .before .before .buffer .ensures .0) (c .before .before .before .before .before .before .before .before .before .before .before .before .before .before .room .ensures .0) (omega (arith, c .before .before .before .before .before .before .before .before .before .before .before .before .before .before .room .ensures .1)),
-        front-filled (o 8) _ 65536 (c .before .before .before .before .before .before .before .before .buffer2 .ensures .0) (c .before .before .before .before .before .before .before .before .before .before .before .before .before .room2 .ensures .0) (omega (arith, c .before .before .before .before .before .before .before .before .before .before .before .before .before .room2 .ensures .1)),
-        front-filled (o 9) _ 65536 (c .before .before .before .before .before .before .before .buffer3 .ensures .0) (c .before .before .before .before .before .before .before .before .before .before .before .before .room3 .ensures .0) (omega (arith, c .before .before .before .before .before .before .before .before .before .before .before .before .room3 .ensures .1)),
-        front-filled (o 10) _ 65536 (c .before .before .before .before .before .before .buffer4 .ensures .0) (c .before .before .before .before .before .before .before .before .before .before .before .room4 .ensures .0) (omega (arith, c .before .before .before .before .before .before .before .before .before .before .before .room4 .ensures .1)),
-        front-filled (o 11) _ 65536 (c .before .before .before .before .before .buffer5 .ensures .0) (c .before .before .before .before .before .before .before .before .before .before .room5 .ensures .0) (omega (arith, c .before .before .before .before .before .before .before .before .before .before .room5 .ensures .1)),
+        front-filled (o objectiveOutputs) _ 65536 (c .before .before .before .before .before .before .before .before .before .buffer .ensures .0) (c .before .before .before .before .before .before .before .before .before .before .before .before .before .before .room .ensures .0) (omega (arith, c .before .before .before .before .before .before .before .before .before .before .before .before .before .before .room .ensures .1)),
+        front-filled (o (objectiveOutputs + 1)) _ 65536 (c .before .before .before .before .before .before .before .before .buffer2 .ensures .0) (c .before .before .before .before .before .before .before .before .before .before .before .before .before .room2 .ensures .0) (omega (arith, c .before .before .before .before .before .before .before .before .before .before .before .before .before .room2 .ensures .1)),
+        front-filled (o (objectiveOutputs + 2)) _ 65536 (c .before .before .before .before .before .before .before .buffer3 .ensures .0) (c .before .before .before .before .before .before .before .before .before .before .before .before .room3 .ensures .0) (omega (arith, c .before .before .before .before .before .before .before .before .before .before .before .before .room3 .ensures .1)),
+        front-filled (o (objectiveOutputs + 3)) _ 65536 (c .before .before .before .before .before .before .buffer4 .ensures .0) (c .before .before .before .before .before .before .before .before .before .before .before .room4 .ensures .0) (omega (arith, c .before .before .before .before .before .before .before .before .before .before .before .room4 .ensures .1)),
+        front-filled (o (objectiveOutputs + 4)) _ 65536 (c .before .before .before .before .before .buffer5 .ensures .0) (c .before .before .before .before .before .before .before .before .before .before .room5 .ensures .0) (omega (arith, c .before .before .before .before .before .before .before .before .before .before .room5 .ensures .1)),
       ),
     )
 

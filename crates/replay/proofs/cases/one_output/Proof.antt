@@ -1,19 +1,20 @@
--- `one_output` meets its contract: the output that the call is lent is filled. Assumes nothing.
+-- `one_output` meets its contract: the output that the call is lent is filled.
 use mathlib.Core.Path.{_≡_, sym, ap, _∙_}
 use Prim.Native.Nat.{ℕ}
 use native.Mathlib.Omega.{arith}
 use borrow.Author.Tests.{ne-eqb}
 use lib.ListN.{length}
 use lib.Seq.{length-take-le}
-use Rattle.replay.specs.Stored.{listOf}
-use Rattle.replay.specs.Agree.{front-filled}
-use Rattle.replay.specs.Cases.{readOf, oneAgrees}
+use Rattle.stored_answers.specs.Stored.{listOf}
+use Rattle.stored_answers.specs.Agree.{front-filled}
+use Rattle.replay.specs.Table.{armOutputs, updateOutput, objectiveOutputs, outputsFrom}
+use Rattle.replay.specs.Cases.{oneAgrees}
 use borrow.Author.Needs.{needs}
 use Rattle.replay.proofs.cases.one_output.Statement.{statement}
 use Rattle.replay.proofs.cases.one_output.Tie as tie
 
-read-requires : tie.Need-read-requires
-read-requires c κs = search needs
+outputs-from-requires : tie.Need-outputs-from-requires
+outputs-from-requires c κs = search needs
 
 room-requires : tie.Need-room-requires
 room-requires c κs = search needs
@@ -28,13 +29,13 @@ slice-aggregate-pose : tie.Need-slice-aggregate-pose
 slice-aggregate-pose c = sym (length-take-le _ _ (omega (arith, c .before .before .before .room .ensures .1, c .before .before .buffer .ensures .1)))
 
 pose-requires : tie.Need-pose-requires
-unfolding readOf
+unfolding outputsFrom
 pose-requires c κs =
     let m = c .before .before .before in
     let b = m .before .before .before in (
-      b .pre,
-      front-filled (listOf (b .args .s .now) (b .args .at) 5) _ 65536 (c .before .before .buffer .ensures .0)
-          (m .room .ensures .0 ∙ ap (λ (k : ℕ). length (listOf (b .args .s .now) (b .args .at) k)) (m .before .read .ensures .0 ∙ ap readOf (c .before .match .keys1))) (omega (arith, m .room .ensures .1)),
+      b .pre .0,
+      front-filled (listOf (b .args .s .now) (b .args .at) armOutputs) _ 65536 (c .before .before .buffer .ensures .0)
+          (m .room .ensures .0 ∙ ap (λ (k : ℕ). length (listOf (b .args .s .now) (b .args .at) k)) (m .before .outputs-from .ensures .0 ∙ ap outputsFrom (c .before .match .keys1))) (omega (arith, m .room .ensures .1)),
     )
 
 returns : tie.Need-returns
@@ -48,13 +49,13 @@ slice-aggregate-manipulability : tie.Need-slice-aggregate-manipulability
 slice-aggregate-manipulability c = sym (length-take-le _ _ (omega (arith, c .before .before .before .room .ensures .1, c .before .before .buffer .ensures .1)))
 
 manipulability-requires : tie.Need-manipulability-requires
-unfolding readOf
+unfolding outputsFrom
 manipulability-requires c κs =
     let m = c .before .before .before in
     let b = m .before .before .before in (
-      b .pre,
-      front-filled (listOf (b .args .s .now) (b .args .at) 5) _ 65536 (c .before .before .buffer .ensures .0)
-          (m .room .ensures .0 ∙ ap (λ (k : ℕ). length (listOf (b .args .s .now) (b .args .at) k)) (m .before .read .ensures .0 ∙ ap readOf (c .before .match .keys2))) (omega (arith, m .room .ensures .1)),
+      b .pre .0,
+      front-filled (listOf (b .args .s .now) (b .args .at) armOutputs) _ 65536 (c .before .before .buffer .ensures .0)
+          (m .room .ensures .0 ∙ ap (λ (k : ℕ). length (listOf (b .args .s .now) (b .args .at) k)) (m .before .outputs-from .ensures .0 ∙ ap outputsFrom (c .before .match .keys2))) (omega (arith, m .room .ensures .1)),
     )
 
 returns-2 : tie.Need-returns-2
@@ -68,13 +69,13 @@ slice-aggregate-update : tie.Need-slice-aggregate-update
 slice-aggregate-update c = sym (length-take-le _ _ (omega (arith, c .before .before .before .room .ensures .1, c .before .before .buffer .ensures .1)))
 
 update-requires : tie.Need-update-requires
-unfolding readOf
+unfolding outputsFrom
 update-requires c κs =
     let m = c .before .before .before in
     let b = m .before .before .before in (
-      b .pre,
-      front-filled (listOf (b .args .s .now) (b .args .at) 6) _ 65536 (c .before .before .buffer .ensures .0)
-          (m .room .ensures .0 ∙ ap (λ (k : ℕ). length (listOf (b .args .s .now) (b .args .at) k)) (m .before .read .ensures .0 ∙ ap readOf (c .before .match .keys3))) (omega (arith, m .room .ensures .1)),
+      b .pre .0,
+      front-filled (listOf (b .args .s .now) (b .args .at) updateOutput) _ 65536 (c .before .before .buffer .ensures .0)
+          (m .room .ensures .0 ∙ ap (λ (k : ℕ). length (listOf (b .args .s .now) (b .args .at) k)) (m .before .outputs-from .ensures .0 ∙ ap outputsFrom (c .before .match .keys3))) (omega (arith, m .room .ensures .1)),
     )
 
 returns-3 : tie.Need-returns-3
@@ -88,15 +89,16 @@ slice-aggregate-objective : tie.Need-slice-aggregate-objective
 slice-aggregate-objective c = sym (length-take-le _ _ (omega (arith, c .before .before .before .room .ensures .1, c .before .before .buffer .ensures .1)))
 
 objective-requires : tie.Need-objective-requires
-unfolding readOf
+unfolding outputsFrom
 objective-requires c κs =
     let m = c .before .before .before in
     let b = m .before .before .before in
     let r = c .before .match .rest in
-    let k : readOf (b .args .call) ≡ 7 = rw (ne-eqb _ 2 (r .0 .0 .1), ne-eqb _ 3 (r .0 .1), ne-eqb _ 4 (r .1)) in (
-      b .pre,
-      front-filled (listOf (b .args .s .now) (b .args .at) 7) _ 65536 (c .before .before .buffer .ensures .0)
-          (m .room .ensures .0 ∙ ap (λ (k : ℕ). length (listOf (b .args .s .now) (b .args .at) k)) (m .before .read .ensures .0 ∙ k)) (omega (arith, m .room .ensures .1)),
+    let n : b .args .call ≡ 5 = omega (arith, b .pre .1, r .0 .0 .1, r .0 .1, r .1) in
+    let k : outputsFrom (b .args .call) ≡ objectiveOutputs = ap outputsFrom n in (
+      b .pre .0,
+      front-filled (listOf (b .args .s .now) (b .args .at) objectiveOutputs) _ 65536 (c .before .before .buffer .ensures .0)
+          (m .room .ensures .0 ∙ ap (λ (k : ℕ). length (listOf (b .args .s .now) (b .args .at) k)) (m .before .outputs-from .ensures .0 ∙ k)) (omega (arith, m .room .ensures .1)),
     )
 
 returns-4 : tie.Need-returns-4
@@ -109,7 +111,7 @@ pub one-output-spec : {M : Type 1} → statement M
 one-output-spec =
     tie.close
     (tie.spec
-    read-requires
+    outputs-from-requires
     room-requires
     buffer-requires
     array-borrow-prefix-a

@@ -1,4 +1,4 @@
--- `room` meets its contract: by what its call ensures. Assumes nothing.
+-- `room` meets its contract: by what its call ensures.
 use mathlib.Core.Path.{ap}
 use lib.ListN.{length}
 use borrow.Author.Needs.{needs}

@@ -1,11 +1,13 @@
--- `three_outputs` meets its contract: the outputs that the call is lent are filled. Assumes nothing.
+-- `three_outputs` meets its contract: the outputs that the call is lent are filled.
 use mathlib.Core.Path.{sym}
+use Prim.Native.Nat.{_+_}
 use native.Mathlib.Omega.{arith}
 use borrow.Author.Tests.{eq-eqb, ne-eqb}
 use lib.Seq.{length-take-le}
-use Rattle.replay.specs.Stored.{listOf}
-use Rattle.replay.specs.Agree.{front-filled}
+use Rattle.stored_answers.specs.Stored.{listOf}
+use Rattle.stored_answers.specs.Agree.{front-filled}
 use Rattle.replay.specs.Cases.{threeAgree}
+use Rattle.replay.specs.Table.{objectiveOutputs}
 use borrow.Author.Needs.{needs}
 use Rattle.replay.proofs.cases.three_outputs.Statement.{statement}
 use Rattle.replay.proofs.cases.three_outputs.Tie as tie
@@ -52,9 +54,9 @@ gradient-requires c κs =
     let o = listOf (b .args .s .now) (b .args .at) in (
       b .pre,
       (
-        front-filled (o 7) _ 65536 (c .before .before .before .before .before .before .buffer .ensures .0) (c .before .before .before .before .before .before .before .before .before .room .ensures .0) (omega (arith, c .before .before .before .before .before .before .before .before .before .room .ensures .1)),
-        front-filled (o 8) _ 65536 (c .before .before .before .before .before .buffer2 .ensures .0) (c .before .before .before .before .before .before .before .before .room2 .ensures .0) (omega (arith, c .before .before .before .before .before .before .before .before .room2 .ensures .1)),
-        front-filled (o 9) _ 65536 (c .before .before .before .before .buffer3 .ensures .0) (c .before .before .before .before .before .before .before .room3 .ensures .0) (omega (arith, c .before .before .before .before .before .before .before .room3 .ensures .1)),
+        front-filled (o objectiveOutputs) _ 65536 (c .before .before .before .before .before .before .buffer .ensures .0) (c .before .before .before .before .before .before .before .before .before .room .ensures .0) (omega (arith, c .before .before .before .before .before .before .before .before .before .room .ensures .1)),
+        front-filled (o (objectiveOutputs + 1)) _ 65536 (c .before .before .before .before .before .buffer2 .ensures .0) (c .before .before .before .before .before .before .before .before .room2 .ensures .0) (omega (arith, c .before .before .before .before .before .before .before .before .room2 .ensures .1)),
+        front-filled (o (objectiveOutputs + 2)) _ 65536 (c .before .before .before .before .buffer3 .ensures .0) (c .before .before .before .before .before .before .before .room3 .ensures .0) (omega (arith, c .before .before .before .before .before .before .before .room3 .ensures .1)),
       ),
     )
 
@@ -86,9 +88,9 @@ gradient-finite-diff-requires c κs =
     let o = listOf (b .args .s .now) (b .args .at) in (
       b .pre,
       (
-        front-filled (o 7) _ 65536 (c .before .before .before .before .before .before .buffer .ensures .0) (c .before .before .before .before .before .before .before .before .before .room .ensures .0) (omega (arith, c .before .before .before .before .before .before .before .before .before .room .ensures .1)),
-        front-filled (o 8) _ 65536 (c .before .before .before .before .before .buffer2 .ensures .0) (c .before .before .before .before .before .before .before .before .room2 .ensures .0) (omega (arith, c .before .before .before .before .before .before .before .before .room2 .ensures .1)),
-        front-filled (o 9) _ 65536 (c .before .before .before .before .buffer3 .ensures .0) (c .before .before .before .before .before .before .before .room3 .ensures .0) (omega (arith, c .before .before .before .before .before .before .before .room3 .ensures .1)),
+        front-filled (o objectiveOutputs) _ 65536 (c .before .before .before .before .before .before .buffer .ensures .0) (c .before .before .before .before .before .before .before .before .before .room .ensures .0) (omega (arith, c .before .before .before .before .before .before .before .before .before .room .ensures .1)),
+        front-filled (o (objectiveOutputs + 1)) _ 65536 (c .before .before .before .before .before .buffer2 .ensures .0) (c .before .before .before .before .before .before .before .before .room2 .ensures .0) (omega (arith, c .before .before .before .before .before .before .before .before .room2 .ensures .1)),
+        front-filled (o (objectiveOutputs + 2)) _ 65536 (c .before .before .before .before .buffer3 .ensures .0) (c .before .before .before .before .before .before .before .room3 .ensures .0) (omega (arith, c .before .before .before .before .before .before .before .room3 .ensures .1)),
       ),
     )
 

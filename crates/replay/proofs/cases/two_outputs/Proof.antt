@@ -1,10 +1,12 @@
--- `two_outputs` meets its contract: the outputs that the call is lent are filled. Assumes nothing.
+-- `two_outputs` meets its contract: the outputs that the call is lent are filled.
 use mathlib.Core.Path.{sym}
+use Prim.Native.Nat.{_+_}
 use native.Mathlib.Omega.{arith}
 use borrow.Author.Tests.{ne-eqb}
 use lib.Seq.{length-take-le}
-use Rattle.replay.specs.Stored.{listOf}
-use Rattle.replay.specs.Agree.{front-filled}
+use Rattle.stored_answers.specs.Stored.{listOf}
+use Rattle.stored_answers.specs.Agree.{front-filled}
+use Rattle.replay.specs.Table.{armOutputs}
 use Rattle.replay.specs.Cases.{twoAgree}
 use borrow.Author.Needs.{needs}
 use Rattle.replay.proofs.cases.two_outputs.Statement.{statement}
@@ -40,8 +42,8 @@ frames-requires c κs =
     let o = listOf (b .args .s .now) (b .args .at) in (
       b .pre,
       (
-        front-filled (o 5) _ 65536 (c .before .before .before .before .buffer .ensures .0) (c .before .before .before .before .before .before .room .ensures .0) (omega (arith, c .before .before .before .before .before .before .room .ensures .1)),
-        front-filled (o 6) _ 65536 (c .before .before .before .buffer2 .ensures .0) (c .before .before .before .before .before .room2 .ensures .0) (omega (arith, c .before .before .before .before .before .room2 .ensures .1)),
+        front-filled (o armOutputs) _ 65536 (c .before .before .before .before .buffer .ensures .0) (c .before .before .before .before .before .before .room .ensures .0) (omega (arith, c .before .before .before .before .before .before .room .ensures .1)),
+        front-filled (o (armOutputs + 1)) _ 65536 (c .before .before .before .buffer2 .ensures .0) (c .before .before .before .before .before .room2 .ensures .0) (omega (arith, c .before .before .before .before .before .room2 .ensures .1)),
       ),
     )
 
@@ -67,8 +69,8 @@ reset-requires c κs =
     let o = listOf (b .args .s .now) (b .args .at) in (
       b .pre,
       (
-        front-filled (o 5) _ 65536 (c .before .before .before .before .buffer .ensures .0) (c .before .before .before .before .before .before .room .ensures .0) (omega (arith, c .before .before .before .before .before .before .room .ensures .1)),
-        front-filled (o 6) _ 65536 (c .before .before .before .buffer2 .ensures .0) (c .before .before .before .before .before .room2 .ensures .0) (omega (arith, c .before .before .before .before .before .room2 .ensures .1)),
+        front-filled (o armOutputs) _ 65536 (c .before .before .before .before .buffer .ensures .0) (c .before .before .before .before .before .before .room .ensures .0) (omega (arith, c .before .before .before .before .before .before .room .ensures .1)),
+        front-filled (o (armOutputs + 1)) _ 65536 (c .before .before .before .buffer2 .ensures .0) (c .before .before .before .before .before .room2 .ensures .0) (omega (arith, c .before .before .before .before .before .room2 .ensures .1)),
       ),
     )
 

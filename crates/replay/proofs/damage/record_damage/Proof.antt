@@ -1,6 +1,6 @@
--- `record_damage` meets its contract: each return follows the tests before it. Assumes nothing.
+-- `record_damage` meets its contract: each return follows the tests before it.
 use borrow.Author.Tests.{lt-ltb, le-ltb}
-use Rattle.replay.specs.Damage.{damageAt}
+use Rattle.stored_answers.specs.Records.{damageAt}
 use borrow.Author.Needs.{needs}
 use Rattle.replay.proofs.damage.record_damage.Statement.{statement}
 use Rattle.replay.proofs.damage.record_damage.Tie as tie

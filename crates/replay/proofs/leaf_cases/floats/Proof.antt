@@ -1,11 +1,12 @@
--- `floats` meets its contract: the floats' bytes go to the front of a list that has room for them. Assumes nothing.
+-- `floats` meets its contract: the floats' bytes go to the front of a list that has room for them.
 use mathlib.Core.Path.{refl, ap, _∙_}
-use Rattle.replay.specs.Agree.{same-answer}
+use Rattle.stored_answers.specs.Agree.{same-answer}
 use mathlib.Core.List.{List, [], _∷_}
 use Prim.Native.Nat.{ℕ, _*_}
 use native.Mathlib.Omega.{arith}
 use lib.ListN.{length}
 use Rattle.lent_bytes.specs.Lent.{bytesOf, bytes-length, front, front-of}
+use Rattle.replay.specs.Table.{answeredList}
 use borrow.Author.Needs.{needs}
 use Rattle.replay.proofs.leaf_cases.floats.Statement.{statement}
 use Rattle.replay.proofs.leaf_cases.floats.Tie as tie
@@ -35,7 +36,7 @@ returns : tie.Need-returns
 returns c =
     let p = c .before .before .before in
     let x = p .before .before .before .before .args .xs .now in
-    c .one .ensures ∙ same-answer _ _ 1 refl (ap (λ (l : List ℕ). l ∷ []) (front _ (p .put-floats .last .1 .1 .0) (bytesOf x) (8 * length x) (p .put-floats .ensures) (bytes-length x)))
+    c .one .ensures ∙ same-answer _ _ answeredList refl (ap (λ (l : List ℕ). l ∷ []) (front _ (p .put-floats .last .1 .1 .0) (bytesOf x) (8 * length x) (p .put-floats .ensures) (bytes-length x)))
 
 pub floats-spec : {M : Type 1} → statement M
 floats-spec =

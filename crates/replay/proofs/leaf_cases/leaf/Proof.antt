@@ -1,10 +1,10 @@
--- `leaf` meets its contract: each return follows the tests before it. Assumes nothing.
+-- `leaf` meets its contract: each return follows the tests before it.
 use mathlib.Core.Path.{refl, sym, ap, _∙_}
 use mathlib.Core.List.{List, [], _∷_}
 use lib.Ieee.{Float}
 use Rattle.lent_bytes.specs.Lent.{bytesOf}
 use Rattle.lent_bytes.specs.SheetLists.{same-two}
-use Rattle.replay.specs.Agree.{same-answer}
+use Rattle.stored_answers.specs.Agree.{same-answer}
 use Rattle.replay.specs.Leaves.{leafOf, leafAgrees, quatList, vecList, leaf-standin, leaf-loss, leaf-measure, leaf-quat, leaf-vec, leaf-gram}
 use borrow.Author.Needs.{needs}
 use Rattle.replay.proofs.leaf_cases.leaf.Statement.{statement}

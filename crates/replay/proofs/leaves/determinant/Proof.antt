@@ -1,4 +1,4 @@
--- `determinant` meets its contract: by what its calls ensure. Assumes nothing.
+-- `determinant` meets its contract: by what its calls ensure.
 use mathlib.Core.Path.{ap, _∙_}
 use Rattle.geometry.specs.Matrix.{determinantOf}
 use borrow.Author.Needs.{needs}

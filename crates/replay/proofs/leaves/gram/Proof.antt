@@ -1,4 +1,4 @@
--- `gram` meets its contract: by what its calls ensure of the decoded list. Assumes nothing.
+-- `gram` meets its contract: by what its calls ensure of the decoded list.
 use mathlib.Core.Path.{ap, _∙_}
 use Rattle.geometry.specs.Matrix.{gramOf}
 use borrow.Author.Needs.{needs}

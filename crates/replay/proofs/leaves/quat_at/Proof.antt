@@ -1,4 +1,4 @@
--- `quat_at` meets its contract: by what its calls ensure. Assumes nothing.
+-- `quat_at` meets its contract: by what its calls ensure.
 use borrow.Author.Needs.{needs}
 use Rattle.replay.proofs.leaves.quat_at.Statement.{statement}
 use Rattle.replay.proofs.leaves.quat_at.Tie as tie

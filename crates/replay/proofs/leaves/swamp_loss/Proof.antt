@@ -1,4 +1,4 @@
--- `swamp_loss` meets its contract: by what its calls ensure. Assumes nothing.
+-- `swamp_loss` meets its contract: by what its calls ensure.
 use borrow.Author.Needs.{needs}
 use Rattle.replay.proofs.leaves.swamp_loss.Statement.{statement}
 use Rattle.replay.proofs.leaves.swamp_loss.Tie as tie

@@ -1,4 +1,4 @@
--- `vec_at` meets its contract: by what its calls ensure. Assumes nothing.
+-- `vec_at` meets its contract: by what its calls ensure.
 use borrow.Author.Needs.{needs}
 use Rattle.replay.proofs.leaves.vec_at.Statement.{statement}
 use Rattle.replay.proofs.leaves.vec_at.Tie as tie

@@ -1,14 +1,16 @@
--- `gradient_one_block` meets its contract: the call is lent the record's lists, and outputs that are filled. Assumes nothing.
+-- `gradient_one_block` meets its contract: the call is lent the record's lists, and outputs that are filled.
 use mathlib.Core.Path.{ap, _∙_}
 use mathlib.Core.List.{[], _∷_}
+use Prim.Native.Nat.{_+_}
 use native.Mathlib.Omega.{arith}
 use Rattle.lent_bytes.specs.Lent.{numbersIn, floatsIn, roomIn, numberRoomIn, bytesOf, bytesOfNumbers}
 use Rattle.lent_bytes.specs.SheetLists.{same-two, same-sheet}
 use Rattle.objective_bytes.specs.ObjectiveCalls.{gradientSlopes, objectiveValue}
 use Rattle.one_block_bytes.specs.OneBlockCalls.{jointsIn, linksIn, oneBlockNumber, posesIn}
-use Rattle.replay.specs.Same.{same-four, same-five, same-nine}
-use Rattle.replay.specs.Stored.{listOf}
-use Rattle.replay.specs.Agree.{filled-length, left-written, same-answer}
+use Rattle.stored_answers.specs.Same.{same-four, same-five, same-nine}
+use Rattle.stored_answers.specs.Stored.{listOf}
+use Rattle.stored_answers.specs.Agree.{filled-length, left-written, same-answer}
+use Rattle.replay.specs.Table.{objectiveOutputs}
 use Rattle.replay.specs.Objectives.{oneBlockAgrees}
 use borrow.Author.Needs.{needs}
 use Rattle.replay.proofs.objective_cases.gradient_one_block.Statement.{statement}
@@ -67,13 +69,13 @@ returns c =
     let g = ap (floatsIn 52) (l .before .before .list5 .ensures .0) in
     let h = ap (floatsIn 64) (l .before .list6 .ensures .0) in
     let x = ap (floatsIn 16) (l .list7 .ensures .0) in
-    let n = w .gradient-one-block .ensures .0 ∙ same-nine oneBlockNumber z g h x (ap roomIn (filled-length (o 7) (b .pre .1 .0))) (ap roomIn (filled-length (o 8) (b .pre .1 .1))) (ap numberRoomIn (filled-length (o 9) (b .pre .1 .2))) (ap numberRoomIn (filled-length (o 10) (b .pre .1 .3))) (ap roomIn (filled-length (o 11) (b .pre .1 .4))) in
-    c .five .ensures ∙ same-answer _ _ 7 n (same-five (λ a b c d e. a ∷ b ∷ c ∷ d ∷ e ∷ [])
-    (w .gradient-one-block .ensures .1 .0 ∙ left-written (o 7) n (b .pre .1 .0) (ap bytesOf (same-four objectiveValue z g h x)))
-    (w .gradient-one-block .ensures .1 .1 .0 ∙ left-written (o 8) n (b .pre .1 .1) (ap bytesOf (same-four gradientSlopes z g h x)))
-    (w .gradient-one-block .ensures .1 .1 .1 .0 ∙ left-written (o 9) n (b .pre .1 .2) (ap bytesOfNumbers (ap jointsIn z)))
-    (w .gradient-one-block .ensures .1 .1 .1 .1 ∙ left-written (o 10) n (b .pre .1 .3) (ap bytesOfNumbers (ap linksIn z)))
-    (w .gradient-one-block .ensures .1 .1 .1 .2 ∙ left-written (o 11) n (b .pre .1 .4) (ap bytesOf (same-two posesIn z x))))
+    let n = w .gradient-one-block .ensures .0 ∙ same-nine oneBlockNumber z g h x (ap roomIn (filled-length (o objectiveOutputs) (b .pre .1 .0))) (ap roomIn (filled-length (o (objectiveOutputs + 1)) (b .pre .1 .1))) (ap numberRoomIn (filled-length (o (objectiveOutputs + 2)) (b .pre .1 .2))) (ap numberRoomIn (filled-length (o (objectiveOutputs + 3)) (b .pre .1 .3))) (ap roomIn (filled-length (o (objectiveOutputs + 4)) (b .pre .1 .4))) in
+    c .five .ensures ∙ same-answer _ _ objectiveOutputs n (same-five (λ a b c d e. a ∷ b ∷ c ∷ d ∷ e ∷ [])
+    (w .gradient-one-block .ensures .1 .0 ∙ left-written (o objectiveOutputs) n (b .pre .1 .0) (ap bytesOf (same-four objectiveValue z g h x)))
+    (w .gradient-one-block .ensures .1 .1 .0 ∙ left-written (o (objectiveOutputs + 1)) n (b .pre .1 .1) (ap bytesOf (same-four gradientSlopes z g h x)))
+    (w .gradient-one-block .ensures .1 .1 .1 .0 ∙ left-written (o (objectiveOutputs + 2)) n (b .pre .1 .2) (ap bytesOfNumbers (ap jointsIn z)))
+    (w .gradient-one-block .ensures .1 .1 .1 .1 ∙ left-written (o (objectiveOutputs + 3)) n (b .pre .1 .3) (ap bytesOfNumbers (ap linksIn z)))
+    (w .gradient-one-block .ensures .1 .1 .1 .2 ∙ left-written (o (objectiveOutputs + 4)) n (b .pre .1 .4) (ap bytesOf (same-two posesIn z x))))
 
 pub gradient-one-block-spec : {M : Type 1} → statement M
 gradient-one-block-spec =

@@ -1,13 +1,14 @@
--- `objective` meets its contract: the call is lent the record's lists, and outputs that are filled. Assumes nothing.
+-- `objective` meets its contract: the call is lent the record's lists, and outputs that are filled.
 use mathlib.Core.Path.{ap, _∙_}
 use mathlib.Core.List.{[], _∷_}
 use native.Mathlib.Omega.{arith}
 use Rattle.lent_bytes.specs.Lent.{numbersIn, floatsIn, roomIn, bytesOf}
 use Rattle.lent_bytes.specs.SheetLists.{same-sheet}
 use Rattle.objective_bytes.specs.ObjectiveCalls.{objectiveNumber, objectiveValue}
-use Rattle.replay.specs.Same.{same-four, same-five}
-use Rattle.replay.specs.Stored.{listOf}
-use Rattle.replay.specs.Agree.{filled-length, left-written, same-answer}
+use Rattle.stored_answers.specs.Same.{same-four, same-five}
+use Rattle.stored_answers.specs.Stored.{listOf}
+use Rattle.stored_answers.specs.Agree.{filled-length, left-written, same-answer}
+use Rattle.replay.specs.Table.{objectiveOutputs}
 use Rattle.replay.specs.Objectives.{objectiveAgrees}
 use borrow.Author.Needs.{needs}
 use Rattle.replay.proofs.objective_cases.objective.Statement.{statement}
@@ -54,9 +55,9 @@ returns c =
     let g = ap (floatsIn 52) (l .before .before .list5 .ensures .0) in
     let h = ap (floatsIn 64) (l .before .list6 .ensures .0) in
     let x = ap (floatsIn 16) (l .list7 .ensures .0) in
-    let n = w .objective .ensures .0 ∙ same-five objectiveNumber z g h x (ap roomIn (filled-length (o 7) (b .pre .1))) in
-    c .one .ensures ∙ same-answer _ _ 7 n (ap (λ a. a ∷ [])
-    (w .objective .ensures .1 ∙ left-written (o 7) n (b .pre .1) (ap bytesOf (same-four objectiveValue z g h x))))
+    let n = w .objective .ensures .0 ∙ same-five objectiveNumber z g h x (ap roomIn (filled-length (o objectiveOutputs) (b .pre .1))) in
+    c .one .ensures ∙ same-answer _ _ objectiveOutputs n (ap (λ a. a ∷ [])
+    (w .objective .ensures .1 ∙ left-written (o objectiveOutputs) n (b .pre .1) (ap bytesOf (same-four objectiveValue z g h x))))
 
 pub objective-spec : {M : Type 1} → statement M
 objective-spec =

@@ -1,10 +1,11 @@
--- `each_call` meets its contract: each turn adds one call's counts. Assumes nothing.
+-- `each_call` meets its contract: each turn adds one call's counts.
 use mathlib.Core.Path.{_≡_, refl, sym, ap, _∙_}
 use Prim.Native.Nat.{_+_, _*_, _-_, _≤_}
 use native.Mathlib.Omega.{arith}
 use borrow.Author.Needs.{needs}
 use Rattle.lent_bytes.specs.SheetLists.{same-two}
-use Rattle.replay.specs.Tally.{sumOf, casesOf, differOf, sum-more}
+use Rattle.stored_answers.specs.Records.{sumOf, sum-more}
+use Rattle.replay.specs.Tally.{casesOf, differOf}
 use Rattle.replay.proofs.report.each_call.Statement.{statement}
 use Rattle.replay.proofs.report.each_call.Tie as tie
 

@@ -1,8 +1,9 @@
--- `counted` meets its contract: each return follows the tests before it. Assumes nothing.
-use Rattle.replay.specs.Stored.{numberAt}
+-- `counted` meets its contract: each return follows the tests before it.
+use Rattle.stored_answers.specs.Stored.{numberAt}
 use mathlib.Core.Path.{_≡_, sym, _∙_}
 use native.Mathlib.Omega.{arith}
-use Rattle.replay.specs.Tally.{case-none, case-one, different-none, different-agrees, different-one}
+use Rattle.stored_answers.specs.Records.{case-none, case-one, different-none, different-agrees, different-one}
+use Rattle.replay.specs.Cases.{recordAgrees}
 use borrow.Author.Needs.{needs}
 use Rattle.replay.proofs.tally.counted.Statement.{statement}
 use Rattle.replay.proofs.tally.counted.Tie as tie
@@ -15,7 +16,7 @@ returns c =
     let a = c .before .before .before .args in
     let h : numberAt (a .s .now) (a .at) ≡ a .call → ⊥ = λ z. c .if1 .taken (c .before .number-at .ensures .0 ∙ z) in
     let p = case-none (a .s .now) (a .call) (a .at) h in
-    let q = different-none (a .s .now) (a .call) (a .at) h in
+    let q = different-none (a .s .now) (a .call) (a .at) (recordAgrees (a .s .now) (a .at)) h in
     (omega arith, omega arith, omega arith, omega arith)
 
 agrees-requires : tie.Need-agrees-requires
@@ -31,7 +32,7 @@ returns-2 c =
     let a = n .before .before .args in
     let h = sym (n .number-at .ensures .0) ∙ g .before .if1 .left in
     let p = case-one (a .s .now) (a .call) (a .at) h in
-    let q = different-agrees (a .s .now) (a .call) (a .at) h (sym (g .agrees .ensures) ∙ c .before .if2 .taken) in
+    let q = different-agrees (a .s .now) (a .call) (a .at) _ h (sym (g .agrees .ensures) ∙ c .before .if2 .taken) in
     (omega arith, omega arith, omega arith, omega arith)
 
 add-t5 : tie.Need-add-t5
@@ -47,7 +48,7 @@ returns-3 c =
     let a = n .before .before .args in
     let h = sym (n .number-at .ensures .0) ∙ g .before .if1 .left in
     let p = case-one (a .s .now) (a .call) (a .at) h in
-    let q = different-one (a .s .now) (a .call) (a .at) h (sym (g .agrees .ensures) ∙ c .before .before .if2 .left) in
+    let q = different-one (a .s .now) (a .call) (a .at) _ h (sym (g .agrees .ensures) ∙ c .before .before .if2 .left) in
     (omega arith, omega arith, omega arith, omega arith)
 
 pub counted-spec : {M : Type 1} → statement M

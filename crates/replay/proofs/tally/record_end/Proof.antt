@@ -1,6 +1,6 @@
--- `record_end` meets its contract: by what its calls ensure. Assumes nothing.
+-- `record_end` meets its contract: by what its calls ensure.
 use native.Mathlib.Omega.{arith}
-use Rattle.replay.specs.Tally.{endOf}
+use Rattle.stored_answers.specs.Records.{endBy}
 use borrow.Author.Needs.{needs}
 use Rattle.replay.proofs.tally.record_end.Statement.{statement}
 use Rattle.replay.proofs.tally.record_end.Tie as tie
@@ -15,7 +15,7 @@ place-requires : tie.Need-place-requires
 place-requires c κs = search needs
 
 returns : tie.Need-returns
-unfolding endOf
+unfolding endBy
 returns c = (cc, omega arith)
 
 pub record-end-spec : {M : Type 1} → statement M

@@ -1,4 +1,4 @@
--- `gap` meets its contract: the four points, then the distance. Assumes nothing.
+-- `gap` meets its contract: the four points, then the distance.
 use Rattle.self_collision.specs.Pairs.{gapOf}
 use borrow.Author.Needs.{needs}
 use Rattle.self_collision.proofs.pairs.gap.Statement.{statement}

@@ -1,4 +1,4 @@
--- `point` meets its contract: the origin, or the position after a link. Assumes nothing.
+-- `point` meets its contract: the origin, or the position after a link.
 use mathlib.Core.Path.{sym, _∙_}
 use Rattle.self_collision.specs.Pairs.{point-zero, point-link}
 use borrow.Author.Needs.{needs}

@@ -1,4 +1,4 @@
--- `put_chain` meets its contract: turn after turn one link's pairs more. Assumes nothing.
+-- `put_chain` meets its contract: turn after turn one link's pairs more.
 use mathlib.Core.Path.{_≡_, refl, ap, _∙_}
 use mathlib.Core.List.{map}
 use Prim.Native.Nat.{ℕ, _+_, _-_, _≤_}

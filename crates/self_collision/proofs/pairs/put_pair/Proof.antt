@@ -1,4 +1,4 @@
--- `put_pair` meets its contract: the loss stands already, or is stored. Assumes nothing.
+-- `put_pair` meets its contract: the loss stands already, or is stored.
 use mathlib.Core.Path.{_≡_}
 use denote.Ref.{now}
 use Rattle.manipulability.specs.View.{viewOf}

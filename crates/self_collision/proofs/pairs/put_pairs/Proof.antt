@@ -1,4 +1,4 @@
--- `put_pairs` meets its contract: turn after turn one chain's pairs more. Assumes nothing.
+-- `put_pairs` meets its contract: turn after turn one chain's pairs more.
 use mathlib.Core.Path.{_≡_, refl, sym, ap, _∙_}
 use mathlib.Core.List.{map}
 use Prim.Native.Nat.{ℕ, _+_, _-_, _≤_, _<_}

@@ -1,4 +1,4 @@
--- `put_row` meets its contract: turn after turn one pair more. Assumes nothing.
+-- `put_row` meets its contract: turn after turn one pair more.
 use mathlib.Core.Path.{_≡_, refl, ap, _∙_}
 use mathlib.Core.List.{map}
 use Prim.Native.Nat.{ℕ, _+_, _-_, _≤_}

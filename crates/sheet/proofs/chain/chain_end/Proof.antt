@@ -1,5 +1,5 @@
 -- `chain::chain_end` meets its contract. The loop's invariant: the end is `s` past the end among the chains left, and each chain added 65535 at most.
--- The measure is the number of chains left. Assumes nothing.
+-- The measure is the number of chains left.
 use denote.Ref.{now}
 use mathlib.Core.Path.{_≡_}
 use Prim.Native.Nat.{_+_, _-_, _*_, _≤_}

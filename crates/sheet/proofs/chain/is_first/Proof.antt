@@ -1,5 +1,5 @@
 -- `chain::is_first` meets its contract. The loop's invariant: the answer is that of the chains left for the links left of `link`.
--- The measure is the number of chains left. Assumes nothing.
+-- The measure is the number of chains left.
 use mathlib.Core.Path.{_≡_, refl, sym, ap, _∙_}
 use Prim.Native.Nat.{_-_, _≤_}
 use native.Mathlib.Omega.{arith}

@@ -1,5 +1,5 @@
 -- `chain::total_links` meets its contract. The loop's invariant: `s` and the chains left make the total, and each chain added 65535 at most.
--- The measure is the number of chains left. Assumes nothing.
+-- The measure is the number of chains left.
 use mathlib.Core.Path.{_≡_}
 use Prim.Native.Nat.{_+_, _-_, _*_, _≤_}
 use native.Mathlib.Omega.{arith}

@@ -1,4 +1,4 @@
--- `take_apart` meets its contract: each return follows the tests before it. Assumes nothing.
+-- `take_apart` meets its contract: each return follows the tests before it.
 use borrow.Author.Tests.{eq-eqb, ne-eqb, lt-ltb, le-ltb}
 use Rattle.sheet.specs.Code.{kindOf}
 use Rattle.sheet.proofs.code.take_apart.Statement.{statement}

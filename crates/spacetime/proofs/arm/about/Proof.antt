@@ -1,4 +1,4 @@
--- `about` meets its contract: each return follows the test. Assumes nothing.
+-- `about` meets its contract: each return follows the test.
 use borrow.Author.Tests.{eq-eqb, ne-eqb}
 use Rattle.spacetime.specs.Link.{aboutOf}
 use borrow.Author.Needs.{needs}

@@ -1,4 +1,4 @@
--- `after_link` meets its contract: by what its calls ensure. Assumes nothing.
+-- `after_link` meets its contract: by what its calls ensure.
 use Rattle.spacetime.specs.Walk.{afterLink}
 use borrow.Author.Needs.{needs}
 use Rattle.spacetime.proofs.arm.after_link.Statement.{statement}

@@ -1,4 +1,4 @@
--- `after_turn` meets its contract: by what its calls ensure. Assumes nothing.
+-- `after_turn` meets its contract: by what its calls ensure.
 use Rattle.spacetime.specs.Turns.{afterTurn}
 use borrow.Author.Needs.{needs}
 use Rattle.spacetime.proofs.arm.after_turn.Statement.{statement}

@@ -1,4 +1,4 @@
--- `along` meets its contract: each return follows the tests before it. Assumes nothing.
+-- `along` meets its contract: each return follows the tests before it.
 use borrow.Author.Tests.{eq-eqb, ne-eqb}
 use Rattle.spacetime.specs.Link.{alongOf}
 use borrow.Author.Needs.{needs}

@@ -1,4 +1,4 @@
--- `carried` meets its contract: by what its two calls ensure. Assumes nothing.
+-- `carried` meets its contract: by what its two calls ensure.
 use Rattle.spacetime.specs.Link.{carriedOf}
 use borrow.Author.Needs.{needs}
 use Rattle.spacetime.proofs.arm.carried.Statement.{statement}

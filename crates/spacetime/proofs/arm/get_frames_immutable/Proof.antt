@@ -1,4 +1,4 @@
--- `get_frames_immutable` meets its contract: the rotations that the walk reads are those made of the turns that were put. Assumes nothing.
+-- `get_frames_immutable` meets its contract: the rotations that the walk reads are those made of the turns that were put.
 use native.Mathlib.Omega.{arith}
 use borrow.Author.Needs.{needs}
 use Rattle.spacetime.specs.Turns.{turns-turned, turned-rotated}

@@ -1,4 +1,4 @@
--- `is_none` meets its contract: each return follows the tests before it. Assumes nothing.
+-- `is_none` meets its contract: each return follows the tests before it.
 use mathlib.Core.Path.{_≡_, refl}
 use mathlib.Core.Bool.{Bool, true, false, not, true≢false, false≢true}
 use lib.Ieee.{Float, eq, ne}

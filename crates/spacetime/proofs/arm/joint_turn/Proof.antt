@@ -1,4 +1,4 @@
--- `joint_turn` meets its contract: each kind by what its call ensures. Assumes nothing.
+-- `joint_turn` meets its contract: each kind by what its call ensures.
 use Rattle.spacetime.specs.Link.{jointTurn}
 use borrow.Author.Needs.{needs}
 use Rattle.spacetime.proofs.arm.joint_turn.Statement.{statement}

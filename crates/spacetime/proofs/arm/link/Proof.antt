@@ -1,11 +1,8 @@
--- `link` meets its contract: by what its calls ensure. Assumes nothing.
+-- `link` meets its contract: by what its calls ensure.
 use Rattle.spacetime.specs.Link.{linkOf}
 use borrow.Author.Needs.{needs}
 use Rattle.spacetime.proofs.arm.link.Statement.{statement}
 use Rattle.spacetime.proofs.arm.link.Tie as tie
-
-moved-requires : tie.Need-moved-requires
-moved-requires c κs = search needs
 
 offset-requires : tie.Need-offset-requires
 offset-requires c κs = search needs
@@ -13,9 +10,12 @@ offset-requires c κs = search needs
 turned-requires : tie.Need-turned-requires
 turned-requires c κs = search needs
 
+moved-requires : tie.Need-moved-requires
+moved-requires c κs = search needs
+
 returns : tie.Need-returns
 unfolding linkOf
 returns c = cc
 
 pub link-spec : {M : Type 1} → statement M
-link-spec = tie.close (tie.spec moved-requires offset-requires turned-requires returns)
+link-spec = tie.close (tie.spec offset-requires turned-requires moved-requires returns)

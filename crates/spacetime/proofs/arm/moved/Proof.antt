@@ -1,4 +1,4 @@
--- `moved` meets its contract: each kind by what its calls ensure. Assumes nothing.
+-- `moved` meets its contract: each kind by what its calls ensure.
 use Rattle.spacetime.specs.Link.{movedOf}
 use borrow.Author.Needs.{needs}
 use Rattle.spacetime.proofs.arm.moved.Statement.{statement}

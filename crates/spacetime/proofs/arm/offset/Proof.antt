@@ -1,4 +1,4 @@
--- `offset` meets its contract: each return follows the test. Assumes nothing.
+-- `offset` meets its contract: each return follows the test.
 use Rattle.spacetime.specs.Link.{offsetOf}
 use borrow.Author.Needs.{needs}
 use Rattle.spacetime.proofs.arm.offset.Statement.{statement}

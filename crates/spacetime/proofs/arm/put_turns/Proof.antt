@@ -1,4 +1,4 @@
--- `put_turns` meets its contract: turn after turn one joint more. Assumes nothing.
+-- `put_turns` meets its contract: turn after turn one joint more.
 use mathlib.Core.Path.{_≡_, refl, sym, ap, _∙_}
 use Prim.Native.Nat.{ℕ, _+_, _-_, _≤_}
 use native.Mathlib.Omega.{arith}

@@ -1,4 +1,4 @@
--- `signed` meets its contract: each return follows the test. Assumes nothing.
+-- `signed` meets its contract: each return follows the test.
 use borrow.Author.Tests.{lt-ltb, le-ltb}
 use Rattle.spacetime.specs.Link.{signedBy}
 use Rattle.spacetime.proofs.arm.signed.Statement.{statement}

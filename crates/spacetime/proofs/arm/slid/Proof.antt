@@ -1,4 +1,4 @@
--- `slid` meets its contract: each return follows the test. Assumes nothing.
+-- `slid` meets its contract: each return follows the test.
 use borrow.Author.Tests.{eq-eqb, ne-eqb}
 use Rattle.spacetime.specs.Link.{slidOf}
 use borrow.Author.Needs.{needs}
@@ -9,8 +9,8 @@ returns : tie.Need-returns
 unfolding slidOf
 returns c = rw (eq-eqb _ 0 (c .if1 .taken))
 
-along-requires : tie.Need-along-requires
-along-requires c κs = search needs
+slide-requires : tie.Need-slide-requires
+slide-requires c κs = search needs
 
 add-requires : tie.Need-add-requires
 add-requires c κs = search needs
@@ -20,4 +20,4 @@ unfolding slidOf
 returns-2 c = rw (ne-eqb _ 0 (c .before .before .if1 .left)) (cc)
 
 pub slid-spec : {M : Type 1} → statement M
-slid-spec = tie.close (tie.spec returns along-requires add-requires returns-2)
+slid-spec = tie.close (tie.spec returns slide-requires add-requires returns-2)

@@ -1,4 +1,4 @@
--- `start` meets its contract: each return follows the test. Assumes nothing.
+-- `start` meets its contract: each return follows the test.
 use Rattle.spacetime.specs.Walk.{startOf}
 use borrow.Author.Needs.{needs}
 use Rattle.spacetime.proofs.arm.start.Statement.{statement}

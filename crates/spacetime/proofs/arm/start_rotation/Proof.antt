@@ -1,4 +1,4 @@
--- `start_rotation` meets its contract: each return follows the test. Assumes nothing.
+-- `start_rotation` meets its contract: each return follows the test.
 use Rattle.spacetime.specs.Turns.{startTurn}
 use borrow.Author.Needs.{needs}
 use Rattle.spacetime.proofs.arm.start_rotation.Statement.{statement}

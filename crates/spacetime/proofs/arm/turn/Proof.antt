@@ -1,4 +1,4 @@
--- `turn` meets its contract: each return follows the tests before it. Assumes nothing.
+-- `turn` meets its contract: each return follows the tests before it.
 use mathlib.Core.Path.{ap, _∙_}
 use borrow.Author.Tests.{eq-eqb, ne-eqb}
 use Rattle.geometry.specs.Quaternion.{quatXOf, quatYOf, quatZOf}

@@ -1,4 +1,4 @@
--- `turned` meets its contract: each kind by what its call ensures. Assumes nothing.
+-- `turned` meets its contract: each kind by what its call ensures.
 use Rattle.spacetime.specs.Link.{turnedBy}
 use borrow.Author.Needs.{needs}
 use Rattle.spacetime.proofs.arm.turned.Statement.{statement}

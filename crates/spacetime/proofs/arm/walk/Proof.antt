@@ -1,4 +1,4 @@
--- `walk` meets its contract: turn after turn one pose more. Assumes nothing.
+-- `walk` meets its contract: turn after turn one pose more.
 use mathlib.Core.Path.{_≡_, refl, sym, ap, _∙_}
 use Prim.Native.Nat.{ℕ, _+_, _-_, _*_, _≤_}
 use native.Mathlib.Omega.{arith}
@@ -13,12 +13,12 @@ use Rattle.spacetime.proofs.arm.walk.Statement.{statement}
 use Rattle.spacetime.proofs.arm.walk.Tie as tie
 
 abbrev Inv-loop : tie.InvT-loop
-Inv-loop sizes codes geo block turns out₀ p₀ joint₀ at₀ out p joint at =
-    (at ≤ length codes) × (joint ≡ jointOf codes at) × (startOf sizes at p ≡ beforeOf sizes codes geo block at)
-    × (length out ≡ length out₀) × (out ≡ splice out₀ 0 (runs (poses sizes codes geo block) 0 at))
+Inv-loop sizes codes floats block turns out₀ p₀ joint₀ at₀ out p joint at =
+    (at ≤ length codes) × (joint ≡ jointOf codes at) × (startOf sizes at p ≡ beforeOf sizes codes floats block at)
+    × (length out ≡ length out₀) × (out ≡ splice out₀ 0 (runs (poses sizes codes floats block) 0 at))
 
 abbrev μ-loop : tie.MeasureT-loop
-μ-loop sizes codes geo block turns out₀ p₀ joint₀ at₀ out p joint at = length codes - at
+μ-loop sizes codes floats block turns out₀ p₀ joint₀ at₀ out p joint at = length codes - at
 
 origin-requires : tie.Need-origin-requires Inv-loop μ-loop
 origin-requires c κs = tt
@@ -35,7 +35,7 @@ after-known-requires c κs =
     let s = l .before .before .before .before .before .before .before .before in
     let ns = now (s .args .sizes) in
     let cs = now (s .args .codes) in
-    let gs = now (s .args .geo) in
+    let gs = now (s .args .floats) in
     let x = now (s .args .block) in
     let k = l .loop .at in
     let made = pose-made ns cs gs x k (l .loop .joint) (l .loop .p) (c .start .result) (afterLink cs gs x (c .start .result) k (l .loop .joint)) (l .loop .inv .2) (l .loop .inv .1) (c .start .ensures) refl in (
@@ -72,7 +72,7 @@ loop-again c =
     let s = l .before .before .before .before .before .before .before .before in
     let ns = now (s .args .sizes) in
     let cs = now (s .args .codes) in
-    let gs = now (s .args .geo) in
+    let gs = now (s .args .floats) in
     let x = now (s .args .block) in
     let k = l .loop .at in
     let made : w .after-known .result ≡ poseOf ns cs gs x k =
@@ -95,7 +95,7 @@ returns c =
     let l = c .before in
     let s = l .before .before .before .before .before .before .before .before in
     let e : l .loop .at ≡ length (now (s .args .codes)) = omega (arith, l .loop .inv, c) in
-    l .loop .inv .4 ∙ ap (λ (n : ℕ). splice (now (s .args .out)) 0 (runs (poses (now (s .args .sizes)) (now (s .args .codes)) (now (s .args .geo)) (now (s .args .block))) 0 n)) e
+    l .loop .inv .4 ∙ ap (λ (n : ℕ). splice (now (s .args .out)) 0 (runs (poses (now (s .args .sizes)) (now (s .args .codes)) (now (s .args .floats)) (now (s .args .block))) 0 n)) e
 
 pub walk-spec : {M : Type 1} → statement M
 walk-spec =

@@ -1,4 +1,4 @@
--- `get` meets its contract: by what its two calls ensure. Assumes nothing.
+-- `get` meets its contract: by what its two calls ensure.
 use Rattle.spacetime.specs.Floats.{poseAt}
 use borrow.Author.Needs.{needs}
 use Rattle.spacetime.proofs.floats.get.Statement.{statement}

@@ -1,4 +1,4 @@
--- `get_quat` meets its contract: float after float. Assumes nothing.
+-- `get_quat` meets its contract: float after float.
 use mathlib.Core.Path.{refl}
 use Rattle.spacetime.specs.Floats.{quatAt}
 use borrow.Author.Needs.{needs}

@@ -1,4 +1,4 @@
--- `get_vec` meets its contract: float after float. Assumes nothing.
+-- `get_vec` meets its contract: float after float.
 use mathlib.Core.Path.{refl}
 use Rattle.spacetime.specs.Floats.{vecAt}
 use borrow.Author.Needs.{needs}

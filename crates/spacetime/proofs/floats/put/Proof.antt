@@ -1,4 +1,4 @@
--- `put` meets its contract: two runs that touch are one. Assumes nothing.
+-- `put` meets its contract: two runs that touch are one.
 use mathlib.Core.Path.{ap, _∙_}
 use mathlib.Core.List.{List}
 use Prim.Native.Nat.{_+_}

@@ -1,4 +1,4 @@
--- `chain_positions` meets its contract: two runs that touch are one. Assumes nothing.
+-- `chain_positions` meets its contract: two runs that touch are one.
 use mathlib.Core.Path.{ap, _∙_}
 use mathlib.Core.List.{List}
 use Prim.Native.Nat.{_+_}

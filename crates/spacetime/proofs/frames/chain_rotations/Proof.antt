@@ -1,4 +1,4 @@
--- `chain_rotations` meets its contract: three runs that touch are one. Assumes nothing.
+-- `chain_rotations` meets its contract: three runs that touch are one.
 use mathlib.Core.Path.{_≡_, ap, _∙_}
 use mathlib.Core.List.{List, _++_, append-assoc}
 use Prim.Native.Nat.{_+_, _-_, _*_}

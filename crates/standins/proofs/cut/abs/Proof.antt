@@ -1,4 +1,4 @@
--- `abs` meets its contract: each return is a law of what its tests leave. Assumes nothing.
+-- `abs` meets its contract: each return is a law of what its tests leave.
 use mathlib.Core.Path.{sym, subst}
 use lib.Dec.{T}
 use Rattle.standins.proofs.Size.{size-negative, size-zero, size-positive}

@@ -1,4 +1,4 @@
--- `b30` meets its contract: two comparisons of numerals. Assumes nothing.
+-- `b30` meets its contract: two comparisons of numerals.
 use mathlib.Core.Path.{_≡_, refl}
 use Prim.Native.Nat.{_*_, _^_}
 use lib.Dec.{T, lit<}

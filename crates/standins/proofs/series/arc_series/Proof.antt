@@ -1,4 +1,4 @@
--- `arc_series` meets its contract: what is left of the loop makes the whole of what is reached. Assumes nothing.
+-- `arc_series` meets its contract: what is left of the loop makes the whole of what is reached.
 use mathlib.Core.Path.{_≡_, refl}
 use Prim.Native.Nat.{_-_, _*_, _≤_, _^_}
 use native.Mathlib.Omega.{arith}

@@ -1,4 +1,4 @@
--- `atan2` meets its contract: each way is the angle of its own quotient. Assumes nothing.
+-- `atan2` meets its contract: each way is the angle of its own quotient.
 use borrow.Author.Needs.{needs}
 use Rattle.standins.specs.Series.{atan2Of}
 use Rattle.standins.proofs.series.atan2.Statement.{statement}

@@ -1,4 +1,4 @@
--- `both_series` meets its contract: each series goes by the one law of a loop that counts down, and each table is its rule, entry after entry. Assumes nothing.
+-- `both_series` meets its contract: each series goes by the one law of a loop that counts down, and each table is its rule, entry after entry.
 use mathlib.Core.Path.{_≡_, refl}
 use Prim.Native.Nat.{_≤_}
 use native.Mathlib.Omega.{arith}
@@ -9,11 +9,11 @@ use Rattle.standins.proofs.series.both_series.Statement.{statement}
 use Rattle.standins.proofs.series.both_series.Tie as tie
 
 abbrev Inv-loop : tie.InvT-loop
-Inv-loop q sines cosines s₀ c₀ n₀ s c n =
+Inv-loop a q sines cosines s₀ c₀ n₀ s c n =
     (n ≤ 16) × (downFrom (termOf sineDivisor q) n s ≡ seriesOf sineDivisor q) × (downFrom (termOf cosineDivisor q) n c ≡ seriesOf cosineDivisor q)
 
 abbrev μ-loop : tie.MeasureT-loop
-μ-loop q sines cosines s₀ c₀ n₀ s c n = n
+μ-loop a q sines cosines s₀ c₀ n₀ s c n = n
 
 loop-holds : tie.Need-loop-holds Inv-loop μ-loop
 unfolding seriesOf

@@ -1,4 +1,4 @@
--- `cos` meets its contract: its series is that of the square. Assumes nothing.
+-- `cos` meets its contract: by what both series ensure.
 use borrow.Author.Needs.{needs}
 use Rattle.standins.specs.Series.{cosineOf}
 use Rattle.standins.proofs.series.cos.Statement.{statement}

@@ -1,4 +1,4 @@
--- `exp` meets its contract: each return follows the tests before it. Assumes nothing.
+-- `exp` meets its contract: each return follows the tests before it.
 use mathlib.Core.Path.{_≡_, refl, ap, _∙_}
 use borrow.Author.Needs.{needs}
 use lib.Ieee.{binary64, ofInt, ofBits}

@@ -1,4 +1,4 @@
--- `halved` meets its contract: by what the root ensures. Assumes nothing.
+-- `halved` meets its contract: by what the root ensures.
 use borrow.Author.Needs.{needs}
 use Rattle.standins.specs.Series.{halvedOf}
 use Rattle.standins.proofs.series.halved.Statement.{statement}

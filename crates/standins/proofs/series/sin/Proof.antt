@@ -1,4 +1,4 @@
--- `sin` meets its contract: its series is that of the square. Assumes nothing.
+-- `sin` meets its contract: by what both series ensure.
 use borrow.Author.Needs.{needs}
 use Rattle.standins.specs.Series.{sineOf}
 use Rattle.standins.proofs.series.sin.Statement.{statement}

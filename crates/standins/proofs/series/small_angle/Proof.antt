@@ -1,4 +1,4 @@
--- `small_angle` meets its contract: by what its three calls ensure. Assumes nothing.
+-- `small_angle` meets its contract: by what its three calls ensure.
 use mathlib.Core.Path.{_≡_, refl}
 use borrow.Author.Needs.{needs}
 use lib.Ieee.{binary64, ofInt, ofBits}

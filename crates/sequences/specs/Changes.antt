@@ -1,0 +1,41 @@
+-- What the calls that change the state answer on a record's lists: the number, and the state after them.
+use mathlib.Core.Bool.{Bool, true, false}
+use mathlib.Core.List.{List}
+use Prim.Native.Nat.{ℕ}
+use lib.Dec.{eqb}
+use Rattle.lent_bytes.specs.Lent.{numbersIn, floatsIn}
+use Rattle.relaxed_ik.specs.declared.state.State.{State}
+use Rattle.relaxed_ik.specs.declared.state.Outcome.{Outcome}
+use Rattle.relaxed_ik.specs.State.{emptyState}
+use Rattle.relaxed_ik.specs.Load.{loadOf}
+use Rattle.relaxed_ik.specs.Party.{setGoalsOf, resetStateOf, updateStateOf}
+use Rattle.stored_answers.specs.Stored.{listOf}
+use Rattle.sequences.specs.Table.{sizesList, codesList, floatsList, limitsList, goalsList}
+use Rattle.sequences.specs.Lists.{jointsAt}
+
+abbrev pub loadAt : State → List ℕ → ℕ → Outcome
+loadAt st s at =
+    loadOf st (numbersIn 8 (listOf s at sizesList)) (numbersIn 80 (listOf s at codesList)) (floatsIn 512 (listOf s at floatsList)) (floatsIn 64 (listOf s at limitsList))
+
+abbrev pub setGoalsAt : State → List ℕ → ℕ → Outcome
+setGoalsAt st s at = setGoalsOf st (floatsIn 64 (listOf s at goalsList))
+
+abbrev pub resetAt : State → List ℕ → ℕ → Outcome
+resetAt st s at = resetStateOf st (jointsAt s at)
+
+abbrev pub updateAt : State → List ℕ → ℕ → Outcome
+updateAt st s at = updateStateOf st (jointsAt s at)
+
+abbrev pub outcomeIf : Bool → Outcome → Outcome → Outcome
+outcomeIf true a b = a
+outcomeIf false a b = b
+
+-- by the record's call: 0 begins anew, 1 to 4 are the calls above, and every other leaves the state
+unfoldable pub outcomeAt : ℕ → State → List ℕ → ℕ → Outcome
+outcomeAt c st s at =
+    outcomeIf (eqb c 0) (record { number = 0; state = emptyState })
+    (outcomeIf (eqb c 1) (loadAt st s at)
+    (outcomeIf (eqb c 2) (setGoalsAt st s at)
+    (outcomeIf (eqb c 3) (resetAt st s at)
+    (outcomeIf (eqb c 4) (updateAt st s at)
+    (record { number = 0; state = st })))))

@@ -1,0 +1,5 @@
+pub mod Table
+pub mod Lists
+pub mod Changes
+pub mod Asked
+pub mod Steps

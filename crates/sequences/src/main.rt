@@ -1,0 +1,42 @@
+// Plays stored sequences of calls on the state, read from standard input, on the proved code, and says for each call how many steps differ.
+mod agree;
+mod asked;
+mod changes;
+mod damage;
+mod names;
+mod report;
+mod steps;
+mod table;
+mod tally;
+
+use libc::STDOUT_FILENO;
+
+fn play(s: &[u8]) {
+    let found = damage::damage(s);
+    if found == 1 {
+        io::write_all(STDOUT_FILENO, b"the list is cut short\n");
+        return;
+    }
+    if found == 2 {
+        io::write_all(STDOUT_FILENO, b"the list has a record of an unknown call\n");
+        return;
+    }
+    if found == 3 {
+        io::write_all(
+            STDOUT_FILENO,
+            b"the list has bytes behind its last record\n",
+        );
+        return;
+    }
+    report::report(s);
+}
+
+fn main() {
+    let mut list = [0u8; 400000];
+    let n = io::read_full(libc::STDIN_FILENO, &mut list);
+    if n == 400000 {
+        io::write_all(STDOUT_FILENO, b"the list is longer than the room for it\n");
+        return;
+    }
+    play(&list[..n]);
+}

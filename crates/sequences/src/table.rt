@@ -1,0 +1,62 @@
+// Which list of a record is which: the one table of list numbers, as specs/Table.antt has it.
+ghost use mathlib.Core.Path.{_≡_};
+ghost use Prim.Native.Nat.{_≤_};
+ghost use Rattle.sequences.specs.Table.{listsOf};
+
+// load
+pub const SIZES: usize = 0;
+
+pub const CODES: usize = SIZES + 1;
+
+pub const FLOATS: usize = CODES + 1;
+
+pub const LIMITS: usize = FLOATS + 1;
+// set_goals
+pub const GOALS: usize = 0;
+// every other call but `kept`
+pub const JOINTS: usize = 0;
+
+pub const OUTPUTS: usize = JOINTS + 1;
+
+pub const SECOND: usize = OUTPUTS + 1;
+
+pub const THIRD: usize = OUTPUTS + 2;
+
+pub const FOURTH: usize = OUTPUTS + 3;
+
+pub const FIFTH: usize = OUTPUTS + 4;
+
+pub const SIXTH: usize = OUTPUTS + 5;
+// what the state keeps
+pub const KEPT_GOALS: usize = 0;
+
+pub const KEPT_XOPT: usize = 1;
+
+pub const KEPT_PREV: usize = 2;
+
+pub const KEPT_PREV2: usize = 3;
+
+pub const KEPT_PREV3: usize = 4;
+
+pub const KEPT_POSES: usize = 5;
+
+// How many lists a record of the step has.
+pub fn lists(call: usize) -> usize
+    ensures { λ r. ⌜ (r ≡ listsOf call) × (r ≤ 7) ⌝ }
+{
+    match call {
+        0 => return 0,
+        1 => return 4,
+        2 => return 1,
+        3 => return 1,
+        4 => return 1,
+        5 => return 3,
+        6 => return 2,
+        7 => return 2,
+        8 => return 2,
+        9 => return 4,
+        10 => return 4,
+        11 => return 7,
+        _ => return 6,
+    }
+}

@@ -1,0 +1,4 @@
+pub mod Stored
+pub mod Same
+pub mod Agree
+pub mod Records

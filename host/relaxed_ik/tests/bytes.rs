@@ -1,0 +1,209 @@
+//! What the calls answer and write, on lists of bytes written by hand.
+
+use relaxed_ik::bytes::{self, of_floats, of_u16s, Sheet};
+
+const UP: [f64; 7] = [0.0, 0.0, 1.0, 1.0, 0.0, 0.0, 0.0];
+
+fn floats(numbers: &[f64]) -> Vec<u8> {
+    of_floats(numbers).to_vec()
+}
+
+fn u16s(numbers: &[u16]) -> Vec<u8> {
+    of_u16s(numbers).to_vec()
+}
+
+/// One chain of links up 1, with wide limits.
+struct Lists {
+    sizes: Vec<u8>,
+    codes: Vec<u8>,
+    floats: Vec<u8>,
+    limits: Vec<u8>,
+}
+
+fn chain(codes: &[u16]) -> Lists {
+    let joints = codes.iter().filter(|&&code| code != 0).count();
+    Lists {
+        sizes: u16s(&[1, codes.len() as u16]),
+        codes: u16s(codes),
+        floats: floats(&UP.repeat(codes.len())),
+        limits: floats(&[-3.0, 3.0].repeat(joints)),
+    }
+}
+
+impl Lists {
+    fn sheet(&self) -> Sheet<'_> {
+        Sheet {
+            sizes: &self.sizes,
+            codes: &self.codes,
+            floats: &self.floats,
+            limits: &self.limits,
+        }
+    }
+}
+
+#[test]
+fn joint_8_is_taken_and_the_next_float_refused() {
+    let lists = chain(&[13, 12]);
+    for (value, answer) in [(8.0, 0), (8.0f64.next_up(), 7)] {
+        let mut room = floats(&[0.5]);
+        let joints = floats(&[0.0, value]);
+        let answered = bytes::manipulability(lists.sheet(), &joints, &mut room);
+        assert_eq!(answered, answer, "{value:e}");
+        // Fewer than six joints: 0.0; a refused call leaves the list.
+        assert_eq!(room, floats(&[if answer == 0 { 0.0 } else { 0.5 }]));
+    }
+}
+
+#[test]
+fn one_joint_is_refused_and_two_are_taken() {
+    assert_eq!(bytes::load(chain(&[13]).sheet()), 4);
+    assert_eq!(bytes::load(chain(&[13, 13]).sheet()), 0);
+}
+
+#[test]
+fn a_difference_of_limits_is_rounded() {
+    for (lower, upper, answer) in [(5.0, 5.001, 0), (1.0, 1.001, 5)] {
+        let mut lists = chain(&[13, 12]);
+        lists.limits = floats(&[lower, upper, -3.0, 3.0]);
+        assert_eq!(bytes::load(lists.sheet()), answer, "{lower}, {upper}");
+    }
+}
+
+#[test]
+fn two_revolute_links_up() {
+    let lists = chain(&[13, 12]);
+    let mut positions = floats(&[9.0; 10]);
+    let mut rotations = floats(&[9.0; 17]);
+    let answer = bytes::frames(
+        lists.sheet(),
+        &floats(&[0.0, 0.0]),
+        &mut positions,
+        &mut rotations,
+    );
+    assert_eq!(answer, 0);
+    let up = [0.0, 0.0, 0.0, 0.0, 0.0, 1.0, 0.0, 0.0, 2.0, 9.0];
+    assert_eq!(positions, floats(&up));
+    let turns = [[1.0, 0.0, 0.0, 0.0].repeat(4), vec![9.0]].concat();
+    assert_eq!(rotations, floats(&turns));
+}
+
+#[test]
+fn goals_are_13_floats_a_chain() {
+    let lists = chain(&[13, 12]);
+    let mut goals = floats(&[0.0, 0.0, 1.0, 1.0]);
+    goals.extend(floats(&[0.0; 9]));
+    assert_eq!(bytes::set_goals(lists.sheet(), &goals), 0);
+    assert_eq!(bytes::set_goals(lists.sheet(), &goals[1..]), 8);
+    assert_eq!(bytes::set_goals(lists.sheet(), &[]), 8);
+}
+
+#[cfg(feature = "objective")]
+mod objective {
+    use super::{chain, floats, u16s, Lists};
+    use relaxed_ik::bytes::{gradient, gradient_finite_diff, gradient_one_block, objective};
+    use relaxed_ik::bytes::{Given, Record};
+
+    /// A goal within reach, with a tolerance of each kind.
+    const GOAL: [f64; 13] = [
+        0.3, -0.2, 1.5, 1.0, 0.0, 0.0, 0.0, 0.0, 0.1, 0.0, 0.0, 0.5, 3.2,
+    ];
+
+    /// A chain at rest at its joints.
+    struct Aimed {
+        lists: Lists,
+        goals: Vec<u8>,
+        history: Vec<u8>,
+        joints: Vec<u8>,
+    }
+
+    fn aimed(codes: &[u16], joints: &[f64]) -> Aimed {
+        Aimed {
+            lists: chain(codes),
+            goals: floats(&GOAL),
+            history: floats(&joints.repeat(4)),
+            joints: floats(joints),
+        }
+    }
+
+    impl Aimed {
+        fn given(&self) -> Given<'_> {
+            Given {
+                sheet: self.lists.sheet(),
+                goals: &self.goals,
+                history: &self.history,
+            }
+        }
+    }
+
+    /// The values agree, both gradients by 1e-7 agree, the scratch list ends
+    /// equal to the joints, tails are kept, and -0.0 stays what it is.
+    #[test]
+    fn the_calls_agree() {
+        let lists = aimed(&[13, 12, 0, 31], &[0.3, -0.0, 0.7]);
+        let given = lists.given();
+        let mut single = floats(&[9.0, 9.0]);
+        assert_eq!(objective(given, &lists.joints, &mut single), 0);
+        let scratch_after = [&lists.joints[..], &floats(&[9.0])].concat();
+        let mut answers = Vec::new();
+        for call in [gradient, gradient_finite_diff] {
+            let (mut scratch, mut value) = (floats(&[9.0; 4]), floats(&[9.0; 2]));
+            let mut slopes = floats(&[9.0; 4]);
+            let answer = call(given, &lists.joints, &mut scratch, &mut value, &mut slopes);
+            assert_eq!((answer, &value), (0, &single));
+            assert_eq!(scratch, scratch_after);
+            assert_eq!(slopes[24..], floats(&[9.0]));
+            answers.push(slopes);
+        }
+        let (mut value, mut slopes) = (floats(&[9.0; 2]), floats(&[9.0; 4]));
+        let record = Record {
+            joints: &mut u16s(&[0; 20]),
+            links: &mut u16s(&[0; 20]),
+            poses: &mut floats(&[0.0; 140]),
+        };
+        let answer = gradient_one_block(given, &lists.joints, &mut value, &mut slopes, record);
+        assert_eq!((answer, &value, &slopes), (0, &single, &answers[0]));
+    }
+
+    #[test]
+    fn nine_links_are_walked() {
+        let lists = aimed(&[0, 13, 12, 0], &[0.0, 0.0]);
+        let (mut value, mut slopes) = (floats(&[0.0]), floats(&[0.0; 2]));
+        let (mut joints, mut links) = (u16s(&[7; 10]), u16s(&[7; 10]));
+        let mut poses = floats(&[9.0; 64]);
+        let record = Record {
+            joints: &mut joints,
+            links: &mut links,
+            poses: &mut poses,
+        };
+        let given = lists.given();
+        let answer = gradient_one_block(given, &lists.joints, &mut value, &mut slopes, record);
+        assert_eq!(answer, 0);
+        let first = u16::MAX;
+        let raised = [first, first, first, first, 0, 0, 0, 1, 1, 7];
+        assert_eq!(joints, u16s(&raised));
+        assert_eq!(links, u16s(&[0, 1, 2, 3, 1, 2, 3, 2, 3, 7]));
+        for (at, height) in [1.0, 2.0, 3.0, 4.0].into_iter().enumerate() {
+            let pose = [0.0, 0.0, height, 1.0, 0.0, 0.0, 0.0];
+            assert_eq!(poses[56 * at..][..56], floats(&pose), "link {at}");
+        }
+        assert_eq!(poses[8 * 63..], floats(&[9.0]));
+    }
+
+    /// 7 before 8 before 9, and nothing written.
+    #[test]
+    fn a_refused_call_writes_nothing() {
+        let mut lists = aimed(&[13, 12], &[0.5, 0.5]);
+        let good = lists.goals.clone();
+        lists.goals.pop();
+        lists.joints = floats(&[0.5, 8.0f64.next_up()]);
+        let mut value = vec![1, 2, 3];
+        let answer = objective(lists.given(), &lists.joints, &mut value);
+        assert_eq!(answer, 7);
+        lists.joints = floats(&[0.5, 8.0]);
+        let answer = objective(lists.given(), &lists.joints, &mut value);
+        assert_eq!(answer, 8);
+        lists.goals = good;
+        let answer = objective(lists.given(), &lists.joints, &mut value);
+        assert_eq!((answer, value), (9, vec![1, 2, 3]));
+    }
+}
