@@ -22,7 +22,7 @@ use Rattle.lent_bytes.specs.SheetLists.{SheetLists, same-two, same-three}
 use Rattle.arm_bytes.specs.ArmLaws.{bytes-fit}
 use Rattle.objective_bytes.specs.ObjectiveCalls.{aimedNumber, slopesNumber, givenIn, slopesIn}
 
-pub eight-weights : length weightPriors ≡ 8
+eight-weights : length weightPriors ≡ 8
 unfolding weightPriors
 eight-weights = refl
 
@@ -61,28 +61,36 @@ module _ (s : SheetLists) (goals history x : List Float) (k : Taken s goals hist
   abbrev lists : ℕ → Apart
   lists n = apartIn weightPriors (s .limits) goals history n
 
-  pub fit-taken : Fit (lists (length x))
-  fit-taken =
-      let n = length x in
+  -- the blocks of the history
+  block₀ : length (part 0 N history) ≡ N
+  block₀ = part-length 0 N history (omega (arith, k .blocks))
+
+  block₁ : length (part N N history) ≡ N
+  block₁ = part-length N N history (omega (arith, k .blocks))
+
+  block₂ : length (part (2 * N) N history) ≡ N
+  block₂ = part-length (2 * N) N history (omega (arith, k .blocks))
+
+  fit : Fit (lists N)
+  fit =
       record {
         weights = omega (arith, eight-weights);
         limits = omega (arith, k .pairs, k .few);
         goals = omega (arith, k .each, k .chains);
-        xopt = omega (arith, part-length 0 n history (omega (arith, k .block, k .blocks)), k .block, k .few);
-        «prev_state» = omega (arith, part-length n n history (omega (arith, k .block, k .blocks)), k .block, k .few);
-        «prev_state2» = omega (arith, part-length (2 * n) n history (omega (arith, k .block, k .blocks)), k .block, k .few);
+        xopt = omega (arith, block₀, k .few);
+        «prev_state» = omega (arith, block₁, k .few);
+        «prev_state2» = omega (arith, block₂, k .few);
       }
 
-  full-taken : Full (linksOf (s .sizes)) (s .codes) (lists (length x))
-  full-taken =
-      let n = length x in
+  full : Full (linksOf (s .sizes)) (s .codes) (lists N)
+  full =
       record {
         weights = omega (arith, eight-weights);
         limits = omega (arith, k .pairs);
         goals = omega (arith, k .each);
-        xopt = omega (arith, part-length 0 n history (omega (arith, k .block, k .blocks)), k .block);
-        «prev_state» = omega (arith, part-length n n history (omega (arith, k .block, k .blocks)), k .block);
-        «prev_state2» = omega (arith, part-length (2 * n) n history (omega (arith, k .block, k .blocks)), k .block);
+        xopt = omega (arith, block₀);
+        «prev_state» = omega (arith, block₁);
+        «prev_state2» = omega (arith, block₂);
       }
 
   -- each list is lent as long as it is in use
@@ -92,18 +100,21 @@ module _ (s : SheetLists) (goals history x : List Float) (k : Taken s goals hist
       let e₁ : take 8 weightPriors ≡ weightPriors = take-all 8 weightPriors (omega (arith, eight-weights)) in
       let e₂ : take (2 * N) (s .limits) ≡ s .limits = take-all (2 * N) (s .limits) (omega (arith, k .pairs)) in
       let e₃ : take (13 * length (linksOf (s .sizes))) goals ≡ goals = take-all (13 * length (linksOf (s .sizes))) goals (omega (arith, k .each)) in
-      let e₄ : take N (part 0 N history) ≡ part 0 N history = take-all N (part 0 N history) (omega (arith, part-length 0 N history (omega (arith, k .blocks)))) in
-      let e₅ : take N (part N N history) ≡ part N N history = take-all N (part N N history) (omega (arith, part-length N N history (omega (arith, k .blocks)))) in
-      let e₆ : take N (part (2 * N) N history) ≡ part (2 * N) N history = take-all N (part (2 * N) N history) (omega (arith, part-length (2 * N) N history (omega (arith, k .blocks)))) in
+      let e₄ : take N (part 0 N history) ≡ part 0 N history = take-all N (part 0 N history) (omega (arith, block₀)) in
+      let e₅ : take N (part N N history) ≡ part N N history = take-all N (part N N history) (omega (arith, block₁)) in
+      let e₆ : take N (part (2 * N) N history) ≡ part (2 * N) N history = take-all N (part (2 * N) N history) (omega (arith, block₂)) in
       rw (e₁, e₂, e₃, e₄, e₅, e₆)
+
+  -- as a call asks for it, which lays blocks as long as the joints
+  pub fit-taken : Fit (lists (length x))
+  fit-taken = subst (λ n. Fit (lists n)) (sym (k .block)) fit
 
   -- the objective finds in it what is lent
   pub laid-taken : (ns : List ℕ) (t task : List Float) → ns ≡ linksOf (s .sizes) → length t ≡ taskLength → task ≡ laid (lists (length x)) t
       → givenOf ns (s .codes) task ≡ givenIn s goals history
   laid-taken ns t task e w h =
-      same-two (λ ns′ t′. givenOf ns′ (s .codes) t′) e h
-      ∙ laid-given (lists (length x)) t w fit-taken (linksOf (s .sizes)) (s .codes) full-taken (k .chains) (k .few)
-      ∙ ap (λ n. givenApart (linksOf (s .sizes)) (s .codes) (lists n)) (k .block)
+      same-two (λ ns′ t′. givenOf ns′ (s .codes) t′) e (h ∙ ap (λ n. laid (lists n) t) (k .block))
+      ∙ laid-given (lists N) t w fit (linksOf (s .sizes)) (s .codes) full (k .chains) (k .few)
       ∙ apart-taken
 
   pub ready-taken : (ns : List ℕ) (task : List Float) → ns ≡ linksOf (s .sizes) → length task ≡ taskLength → Ready ns (s .codes) task (s .floats) x
