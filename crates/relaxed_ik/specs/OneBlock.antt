@@ -7,7 +7,7 @@ use Rattle.one_block.specs.Record.{recordJoints, recordLinks, recordPoses}
 use Rattle.one_block_calls.specs.Room.{oneBlockRefusal}
 use Rattle.relaxed_ik.specs.declared.state.State.{State}
 use Rattle.relaxed_ik.specs.State.{linksUsed, codesUsed}
-use Rattle.relaxed_ik.specs.Aim.{ifAimed}
+use Rattle.relaxed_ik.specs.StoredTask.{ifAimed}
 use Rattle.relaxed_ik.specs.Objective.{linkFloats}
 
 -- 20, 21, 22, then 7, then 9, lent lists of so many slopes, joints, links and floats of poses
