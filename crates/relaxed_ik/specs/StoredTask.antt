@@ -15,6 +15,7 @@ use Rattle.task.specs.Laid.{Apart, apart}
 use Rattle.refusals.specs.Lowest.{firstOf, first-zero, first-some, first-none}
 use Rattle.refusals.specs.Refusal.{shapeRefusal, blockRefusal}
 use Rattle.objective_master.specs.Weights.{weightPriors}
+use Rattle.gradient.specs.Gradient.{valueAt}
 use Rattle.calls.specs.Arms.{ifTaken}
 use Rattle.calls.specs.Answer.{valueIf}
 use Rattle.objective_calls.specs.Aimed.{Aimed, slopesRefusal, shape-aimed}
@@ -42,6 +43,10 @@ slopesKept ss cs goals started x scratch slopes = ifAimed ss cs goals started (s
 -- what the objectives look at: the sheet in use, and of the list what is in use
 unfoldable pub givenKept : List ℕ → List ℕ → List Float → Given
 givenKept ss cs task = givenOf (linksUsed ss) (codesUsed ss cs) task
+
+-- the objective's value at block x
+abbrev pub valueKept : List ℕ → List ℕ → List Float → List Float → List Float → Float
+valueKept ss cs gs task x = valueAt (givenKept ss cs task) (floatsUsed ss gs) x
 
 -- the lengths of the stored arrays, and of the list
 pub record Arrays (ss cs : List ℕ) (gs task : List Float) : Type 0 where

@@ -6,17 +6,14 @@ use calls::answer::Answer;
 use one_block_calls::slopes;
 ghost use mathlib.Core.Path.{_≡_};
 ghost use lib.ListN.{length};
-ghost use Rattle.lists.specs.Splice.{splice};
 ghost use Rattle.task.specs.Task.{lent};
-ghost use Rattle.gradient.specs.Gradient.{valueAt, gradientOf};
-ghost use Rattle.one_block.specs.Record.{recordJoints, recordLinks, recordPoses};
-ghost use Rattle.calls.specs.Arms.{ifTaken};
+ghost use Rattle.gradient.specs.Gradient.{gradientOf};
 ghost use Rattle.calls.specs.Answer.{numberOf, answerValue, valueIf, answerOf};
 ghost use Rattle.objective_calls.specs.Aimed.{FrontIfTaken};
-ghost use Rattle.relaxed_ik.specs.State.{linksUsed, codesUsed, floatsUsed};
-ghost use Rattle.relaxed_ik.specs.StoredTask.{Arrays, givenKept};
+ghost use Rattle.relaxed_ik.specs.State.{floatsUsed};
+ghost use Rattle.relaxed_ik.specs.StoredTask.{Arrays, givenKept, valueKept};
 ghost use Rattle.relaxed_ik.specs.Objective.{objectiveValueOf, gradientSlopesOf};
-ghost use Rattle.relaxed_ik.specs.OneBlock.{oneBlockKept, oneBlockNumberOf, recordJointsOf, recordLinksOf, recordPosesOf};
+ghost use Rattle.relaxed_ik.specs.OneBlock.{oneBlockKept, oneBlockNumberOf, recordJointsOf, recordLinksOf, recordPosesOf, RecordKept};
 
 // On the stored lists, zeros behind them: 20, 21 and 22 before the call's own numbers.
 fn gradient_one_block_on(
@@ -34,12 +31,10 @@ fn gradient_one_block_on(
 ) -> Answer
     requires { ⌜ Arrays (now sizes) (now codes) (now floats) (now task) ⌝ }
     ensures number { λ r. ⌜ numberOf r ≡ oneBlockKept (lent sizes) (lent codes) «has_goals» started (lent block) (length (lent slopes)) (length (lent «record_joints»)) (length (lent «record_links»)) (length (lent «record_poses»)) ⌝ }
-    ensures value { λ r. ⌜ (answerValue r ≡ valueIf (numberOf r) (valueAt (givenKept (lent sizes) (lent codes) (lent task)) (floatsUsed (lent sizes) (lent floats)) (lent block))) × (r ≡ answerOf (numberOf r) (answerValue r)) ⌝ }
+    ensures value { λ r. ⌜ (answerValue r ≡ valueIf (numberOf r) (valueKept (lent sizes) (lent codes) (lent floats) (lent task) (lent block))) × (r ≡ answerOf (numberOf r) (answerValue r)) ⌝ }
     ensures block { λ _. ⌜ now (block .exit) ≡ lent block ⌝ }
     ensures slopes { λ r. ⌜ FrontIfTaken (numberOf r) slopes (gradientOf (givenKept (lent sizes) (lent codes) (lent task)) (floatsUsed (lent sizes) (lent floats)) (lent block)) ⌝ }
-    ensures record { λ r. ⌜ FrontIfTaken (numberOf r) «record_joints» (recordJoints (linksUsed (lent sizes)) (codesUsed (lent sizes) (lent codes)))
-        × FrontIfTaken (numberOf r) «record_links» (recordLinks (linksUsed (lent sizes)) (codesUsed (lent sizes) (lent codes)))
-        × FrontIfTaken (numberOf r) «record_poses» (recordPoses (linksUsed (lent sizes)) (codesUsed (lent sizes) (lent codes)) (floatsUsed (lent sizes) (lent floats)) (lent block)) ⌝ }
+    ensures record { λ r. ⌜ RecordKept (numberOf r) «record_joints» «record_links» «record_poses» (lent sizes) (lent codes) (lent floats) (lent block) ⌝ }
 {
     let n = state::in_use(sizes, codes);
     let number = stored_task::aim_refusal(n.loaded, has_goals, started);
@@ -71,13 +66,13 @@ pub fn gradient_one_block(
     record_links: &mut [u16],
     record_poses: &mut [f64],
 ) -> Answer
-    ensures number { λ r. ⌜ numberOf r ≡ oneBlockNumberOf state (now (block .entry)) (length (now (slopes .entry))) (length (now («record_joints» .entry))) (length (now («record_links» .entry))) (length (now («record_poses» .entry))) ⌝ }
-    ensures value { λ r. ⌜ (answerValue r ≡ valueIf (numberOf r) (objectiveValueOf state (now (block .entry)))) × (r ≡ answerOf (numberOf r) (answerValue r)) ⌝ }
-    ensures block { λ _. ⌜ now (block .exit) ≡ now (block .entry) ⌝ }
-    ensures slopes { λ r. ⌜ now (slopes .exit) ≡ ifTaken (numberOf r) (now (slopes .entry)) (splice (now (slopes .entry)) 0 (gradientSlopesOf state (now (block .entry)))) ⌝ }
-    ensures record { λ r. ⌜ (now («record_joints» .exit) ≡ ifTaken (numberOf r) (now («record_joints» .entry)) (splice (now («record_joints» .entry)) 0 (recordJointsOf state)))
-        × (now («record_links» .exit) ≡ ifTaken (numberOf r) (now («record_links» .entry)) (splice (now («record_links» .entry)) 0 (recordLinksOf state)))
-        × (now («record_poses» .exit) ≡ ifTaken (numberOf r) (now («record_poses» .entry)) (splice (now («record_poses» .entry)) 0 (recordPosesOf state (now (block .entry))))) ⌝ }
+    ensures number { λ r. ⌜ numberOf r ≡ oneBlockNumberOf state (lent block) (length (lent slopes)) (length (lent «record_joints»)) (length (lent «record_links»)) (length (lent «record_poses»)) ⌝ }
+    ensures value { λ r. ⌜ (answerValue r ≡ valueIf (numberOf r) (objectiveValueOf state (lent block))) × (r ≡ answerOf (numberOf r) (answerValue r)) ⌝ }
+    ensures block { λ _. ⌜ now (block .exit) ≡ lent block ⌝ }
+    ensures slopes { λ r. ⌜ FrontIfTaken (numberOf r) slopes (gradientSlopesOf state (lent block)) ⌝ }
+    ensures record { λ r. ⌜ FrontIfTaken (numberOf r) «record_joints» (recordJointsOf state)
+        × FrontIfTaken (numberOf r) «record_links» (recordLinksOf state)
+        × FrontIfTaken (numberOf r) «record_poses» (recordPosesOf state (lent block)) ⌝ }
 {
     let arms = state.arms;
     let sizes = arms.sizes;

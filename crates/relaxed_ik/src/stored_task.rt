@@ -11,11 +11,11 @@ ghost use mathlib.Core.Path.{_≡_};
 ghost use lib.ListN.{length};
 ghost use Rattle.task.specs.Task.{taskLength, lent};
 ghost use Rattle.task.specs.Laid.{laid};
-ghost use Rattle.gradient.specs.Gradient.{valueAt, slopesOf};
+ghost use Rattle.gradient.specs.Gradient.{slopesOf};
 ghost use Rattle.calls.specs.Answer.{numberOf, answerValue, valueIf, answerOf};
 ghost use Rattle.objective_calls.specs.Aimed.{FrontIfTaken};
 ghost use Rattle.relaxed_ik.specs.State.{floatsUsed};
-ghost use Rattle.relaxed_ik.specs.StoredTask.{Arrays, aimNumber, objectiveKept, slopesKept, givenKept, apartOf};
+ghost use Rattle.relaxed_ik.specs.StoredTask.{Arrays, aimNumber, objectiveKept, slopesKept, givenKept, valueKept, apartOf};
 
 // The built-in weights, the limits, and what the party has set, each at its place.
 pub(crate) fn lay_task(limits: &[f64; 32], party: Party, task: &mut [f64])
@@ -65,7 +65,7 @@ pub(crate) fn objective_on(
 ) -> Answer
     requires { ⌜ Arrays (now sizes) (now codes) (now floats) (now task) ⌝ }
     ensures number { λ r. ⌜ numberOf r ≡ objectiveKept (lent sizes) (lent codes) «has_goals» started (lent joints) ⌝ }
-    ensures value { λ r. ⌜ answerValue r ≡ valueIf (numberOf r) (valueAt (givenKept (lent sizes) (lent codes) (lent task)) (floatsUsed (lent sizes) (lent floats)) (lent joints)) ⌝ }
+    ensures value { λ r. ⌜ answerValue r ≡ valueIf (numberOf r) (valueKept (lent sizes) (lent codes) (lent floats) (lent task) (lent joints)) ⌝ }
     ensures case { λ r. ⌜ r ≡ answerOf (numberOf r) (answerValue r) ⌝ }
 {
     let n = state::in_use(sizes, codes);
@@ -99,7 +99,7 @@ pub(crate) fn gradient_on(
 ) -> Answer
     requires { ⌜ Arrays (now sizes) (now codes) (now floats) (now task) ⌝ }
     ensures number { λ r. ⌜ numberOf r ≡ slopesKept (lent sizes) (lent codes) «has_goals» started (lent joints) (length (lent scratch)) (length (lent slopes)) ⌝ }
-    ensures value { λ r. ⌜ answerValue r ≡ valueIf (numberOf r) (valueAt (givenKept (lent sizes) (lent codes) (lent task)) (floatsUsed (lent sizes) (lent floats)) (lent joints)) ⌝ }
+    ensures value { λ r. ⌜ answerValue r ≡ valueIf (numberOf r) (valueKept (lent sizes) (lent codes) (lent floats) (lent task) (lent joints)) ⌝ }
     ensures case { λ r. ⌜ r ≡ answerOf (numberOf r) (answerValue r) ⌝ }
     ensures scratch { λ r. ⌜ FrontIfTaken (numberOf r) scratch (lent joints) ⌝ }
     ensures slopes { λ r. ⌜ FrontIfTaken (numberOf r) slopes (slopesOf rule (givenKept (lent sizes) (lent codes) (lent task)) (floatsUsed (lent sizes) (lent floats)) (lent joints)) ⌝ }
