@@ -8,11 +8,10 @@ ghost use Prim.Native.Nat.{_≤_};
 ghost use lib.ListN.{length};
 ghost use Rattle.task.specs.Task.{lent, givenIn};
 ghost use Rattle.gradient.specs.Gradient.{valueAt, gradientOf};
-ghost use Rattle.one_block.specs.Record.{recordJoints, recordLinks, recordPoses};
 ghost use Rattle.calls.specs.Arms.{Accepted};
 ghost use Rattle.calls.specs.Answer.{numberOf, answerValue, valueIf, answerOf};
 ghost use Rattle.objective_calls.specs.Aimed.{Aimed, FrontIfTaken};
-ghost use Rattle.one_block_calls.specs.Room.{recordRefusal, oneBlockRefusal};
+ghost use Rattle.one_block_calls.specs.Room.{recordRefusal, oneBlockRefusal, RecordIfTaken};
 
 pub fn record_refusal(entries: usize, joints: usize, links: usize, poses: usize) -> u16
     requires { ⌜ entries ≤ 4160 ⌝ }
@@ -61,9 +60,7 @@ pub fn gradient_one_block(
     ensures value { λ r. ⌜ (answerValue r ≡ valueIf (numberOf r) (valueAt (givenIn sizes codes task) (lent floats) (lent block))) × (r ≡ answerOf (numberOf r) (answerValue r)) ⌝ }
     ensures block { λ _. ⌜ now (block .exit) ≡ lent block ⌝ }
     ensures slopes { λ r. ⌜ FrontIfTaken (numberOf r) slopes (gradientOf (givenIn sizes codes task) (lent floats) (lent block)) ⌝ }
-    ensures record { λ r. ⌜ (FrontIfTaken (numberOf r) «record_joints» (recordJoints (lent sizes) (lent codes)))
-        × (FrontIfTaken (numberOf r) «record_links» (recordLinks (lent sizes) (lent codes)))
-        × (FrontIfTaken (numberOf r) «record_poses» (recordPoses (lent sizes) (lent codes) (lent floats) (lent block))) ⌝ }
+    ensures record { λ r. ⌜ RecordIfTaken (numberOf r) «record_joints» «record_links» «record_poses» (lent sizes) (lent codes) (lent floats) (lent block) ⌝ }
 {
     let number = one_block_refusal(
         sizes,

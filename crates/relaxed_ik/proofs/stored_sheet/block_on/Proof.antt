@@ -7,10 +7,10 @@ use denote.Ref.{now}
 use lib.ListN.{length, take}
 use lib.Seq.{length-take-le}
 use Rattle.refusals.specs.Refusal.{blockRefusal}
-use Rattle.relaxed_ik.specs.Kept.{blockKept, arms-there, no-arms, used, unused, codes-part}
+use Rattle.relaxed_ik.specs.StoredSheet.{blockKept, arms-there, no-arms, used, unused, codes-part}
 use borrow.Author.Needs.{needs}
-use Rattle.relaxed_ik.proofs.kept.block_on.Statement.{statement}
-use Rattle.relaxed_ik.proofs.kept.block_on.Tie as tie
+use Rattle.relaxed_ik.proofs.stored_sheet.block_on.Statement.{statement}
+use Rattle.relaxed_ik.proofs.stored_sheet.block_on.Tie as tie
 
 -- the part of the codes that is lent is as long as it says
 part : (c : tie.Else1) → length (take (c .before .before .in-use .result .links) (now (c .before .before .before .before .before .before .args .codes))) ≡ c .before .before .in-use .result .links

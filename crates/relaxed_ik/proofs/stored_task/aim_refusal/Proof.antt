@@ -1,9 +1,9 @@
 -- `aim_refusal` meets its contract: each return follows the tests before it.
 use mathlib.Core.Path.{refl}
 use borrow.Author.Tests.{not-true, not-false}
-use Rattle.relaxed_ik.specs.Aim.{aimNumber}
-use Rattle.relaxed_ik.proofs.aim.aim_refusal.Statement.{statement}
-use Rattle.relaxed_ik.proofs.aim.aim_refusal.Tie as tie
+use Rattle.relaxed_ik.specs.StoredTask.{aimNumber}
+use Rattle.relaxed_ik.proofs.stored_task.aim_refusal.Statement.{statement}
+use Rattle.relaxed_ik.proofs.stored_task.aim_refusal.Tie as tie
 
 returns : tie.Need-returns
 unfolding aimNumber

@@ -7,19 +7,19 @@ use lib.Ieee.{nan}
 use lib.ListN.{length}
 use lib.Seq.{length-take-le}
 use Rattle.lists.specs.Splice.{splice}
-use Rattle.objective_master.specs.Losses.{given}
-use Rattle.gradient.specs.Gradient.{valueAt, gradientOf}
+use Rattle.task.specs.Task.{givenOf}
+use Rattle.gradient.specs.Gradient.{valueAt, slopesOf}
 use Rattle.calls.specs.Arms.{ifTaken, refused}
 use Rattle.calls.specs.Answer.{numberOf, valueIf, value-refused, answer-refused}
 use Rattle.objective_calls.specs.Aimed.{slopesRefusal}
-use Rattle.relaxed_ik.specs.Kept.{Used, parts-are}
-use Rattle.relaxed_ik.specs.Aim.{slopesKept, givenKept, aim-refused, aim-passed, aim-used, aimed-parts}
+use Rattle.relaxed_ik.specs.StoredSheet.{Used, parts-are}
+use Rattle.relaxed_ik.specs.StoredTask.{slopesKept, givenKept, aim-refused, aim-passed, aim-used, aimed-parts}
 use borrow.Author.Needs.{needs}
-use Rattle.relaxed_ik.proofs.aim.gradient_on.Statement.{statement}
-use Rattle.relaxed_ik.proofs.aim.gradient_on.Tie as tie
+use Rattle.relaxed_ik.proofs.stored_task.gradient_on.Statement.{statement}
+use Rattle.relaxed_ik.proofs.stored_task.gradient_on.Tie as tie
 
 abbrev S : tie.Else1 → tie.Start
-S c = c .before .before .before .before .before .before .before .before .before .before .before .before .before .before .before
+S c = c .before .before .before .before .before .before .before .before .before .before
 
 U : (c : tie.Else1) → Used (now (S c .args .sizes)) (now (S c .args .codes)) (c .before .before .in-use .result)
 U c = aim-used _ _ _ (c .before .before .in-use .ensures) _ _ _ (c .before .aim-refusal .ensures) (c .if1 .left)
@@ -67,7 +67,7 @@ slice-aggregate-gradient-2 c =
 gradient-requires : tie.Need-gradient-requires
 gradient-requires c κs =
     let e = c .before .before .before .before .before .before in
-    aimed-parts _ _ _ _ _ _ _ _ _ (S e .pre .0) (S e .pre .1) _ (U e)
+    aimed-parts _ _ _ _ (S e .pre) _ (U e)
 
 same-length : tie.Need-same-length
 same-length c = search needs
@@ -86,12 +86,12 @@ returns-2 c =
       m .ensures .0 ∙ parts-are (now (a .sizes)) (now (a .codes)) (now (a .floats)) n (U e) (λ ns ks gs. slopesRefusal ks x (length (now (a .scratch))) (length (now (a .slopes))))
           ∙ sym (aim-passed _ _ _ (e .before .before .in-use .ensures) _ _ _ (e .before .aim-refusal .ensures) _ (e .if1 .left)),
       (
-        m .ensures .1 .0 ∙ parts-are (now (a .sizes)) (now (a .codes)) (now (a .floats)) n (U e) (λ ns ks gs. valueIf (numberOf (m .result)) (valueAt (now (a .weights)) (given ns ks (now (a .limits)) (now (a .goals)) (now (a .xopt)) (now (a .prev-state)) (now (a .prev-state2))) gs x)),
+        m .ensures .1 .0 ∙ parts-are (now (a .sizes)) (now (a .codes)) (now (a .floats)) n (U e) (λ ns ks gs. valueIf (numberOf (m .result)) (valueAt (givenOf ns ks (now (a .task))) gs x)),
         (
           m .ensures .1 .1 .0,
           (
             m .ensures .1 .1 .1 .0,
-            m .ensures .1 .1 .1 .1 ∙ parts-are (now (a .sizes)) (now (a .codes)) (now (a .floats)) n (U e) (λ ns ks gs. ifTaken (numberOf (m .result)) (now (a .slopes)) (splice (now (a .slopes)) 0 (gradientOf (now (a .weights)) (given ns ks (now (a .limits)) (now (a .goals)) (now (a .xopt)) (now (a .prev-state)) (now (a .prev-state2))) gs x))),
+            m .ensures .1 .1 .1 .1 ∙ parts-are (now (a .sizes)) (now (a .codes)) (now (a .floats)) n (U e) (λ ns ks gs. ifTaken (numberOf (m .result)) (now (a .slopes)) (splice (now (a .slopes)) 0 (slopesOf (S e .args .rule) (givenOf ns ks (now (a .task))) gs x))),
           ),
         ),
       ),

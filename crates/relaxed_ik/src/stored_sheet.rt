@@ -11,7 +11,7 @@ ghost use Rattle.spacetime.specs.Frames.{positionsOf, rotationsOf, endsOf};
 ghost use Rattle.calls.specs.Arms.{ifTaken};
 ghost use Rattle.calls.specs.Answer.{numberOf, answerValue, valueIf, answerOf};
 ghost use Rattle.relaxed_ik.specs.State.{linksUsed};
-ghost use Rattle.relaxed_ik.specs.Kept.{framesKept, poseKept, blockKept, goalsKept, updateKept, manipulabilityKept, keptPose};
+ghost use Rattle.relaxed_ik.specs.StoredSheet.{framesKept, poseKept, blockKept, goalsKept, updateKept, manipulabilityKept, keptPose};
 
 pub(crate) fn frames_on(
     sizes: &[u16],

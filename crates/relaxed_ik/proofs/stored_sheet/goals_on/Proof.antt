@@ -3,10 +3,10 @@ use mathlib.Core.Path.{sym, ap, _∙_}
 use denote.Ref.{now}
 use Prim.Native.Nat.{ℕ}
 use Rattle.refusals.specs.Refusal.{goalsRefusal}
-use Rattle.relaxed_ik.specs.Kept.{goalsKept, arms-there, no-arms, used, unused}
+use Rattle.relaxed_ik.specs.StoredSheet.{goalsKept, arms-there, no-arms, used, unused}
 use borrow.Author.Needs.{needs}
-use Rattle.relaxed_ik.proofs.kept.goals_on.Statement.{statement}
-use Rattle.relaxed_ik.proofs.kept.goals_on.Tie as tie
+use Rattle.relaxed_ik.proofs.stored_sheet.goals_on.Statement.{statement}
+use Rattle.relaxed_ik.proofs.stored_sheet.goals_on.Tie as tie
 
 in-use-requires : tie.Need-in-use-requires
 in-use-requires c κs = search needs

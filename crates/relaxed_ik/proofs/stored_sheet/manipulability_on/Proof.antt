@@ -9,10 +9,10 @@ use Rattle.spacetime.specs.Walk.{poseOf}
 use Rattle.manipulability.specs.Jacobian.{manipulabilityOf}
 use Rattle.refusals.specs.Refusal.{blockRefusal}
 use Rattle.calls.specs.Answer.{numberOf, valueIf, value-refused, answer-refused}
-use Rattle.relaxed_ik.specs.Kept.{blockKept, keptPose, manipulabilityKept, arms-there, no-arms, Used, used, unused, parts-are, accepted-parts}
+use Rattle.relaxed_ik.specs.StoredSheet.{blockKept, keptPose, manipulabilityKept, arms-there, no-arms, Used, used, unused, parts-are, accepted-parts}
 use borrow.Author.Needs.{needs}
-use Rattle.relaxed_ik.proofs.kept.manipulability_on.Statement.{statement}
-use Rattle.relaxed_ik.proofs.kept.manipulability_on.Tie as tie
+use Rattle.relaxed_ik.proofs.stored_sheet.manipulability_on.Statement.{statement}
+use Rattle.relaxed_ik.proofs.stored_sheet.manipulability_on.Tie as tie
 
 U : (c : tie.Else1) → Used (now (c .before .before .before .before .before .before .before .args .sizes)) (now (c .before .before .before .before .before .before .before .args .codes)) (c .before .before .in-use .result)
 U c = used _ _ _ (c .before .before .in-use .ensures) (c .if1 .left)

@@ -1,10 +1,10 @@
 -- `update_on` meets its contract: each return follows the tests before it.
 use mathlib.Core.Path.{sym}
 use borrow.Author.Tests.{not-true, not-false}
-use Rattle.relaxed_ik.specs.Kept.{blockKept, updateKept, arms-there, no-arms, used, unused}
+use Rattle.relaxed_ik.specs.StoredSheet.{blockKept, updateKept, arms-there, no-arms, used, unused}
 use borrow.Author.Needs.{needs}
-use Rattle.relaxed_ik.proofs.kept.update_on.Statement.{statement}
-use Rattle.relaxed_ik.proofs.kept.update_on.Tie as tie
+use Rattle.relaxed_ik.proofs.stored_sheet.update_on.Statement.{statement}
+use Rattle.relaxed_ik.proofs.stored_sheet.update_on.Tie as tie
 
 in-use-requires : tie.Need-in-use-requires
 in-use-requires c κs = search needs
