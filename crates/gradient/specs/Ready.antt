@@ -1,97 +1,103 @@
 -- What an accepted call has.
 use mathlib.Core.Path.{_≡_, sym, ap, _∙_}
 use mathlib.Core.List.{List}
-use Prim.Native.Nat.{ℕ, _+_, _-_, _*_, _≤_, _<_}
+use Prim.Native.Nat.{ℕ, _-_, _*_, _≤_, _<_}
 use native.Mathlib.Omega.{arith}
 use lib.Ieee.{Float}
-use lib.ListN.{length}
+use lib.ListN.{length, take}
 use borrow.Author.Tests.{lt-ltb, le-leb}
 use Rattle.geometry.specs.declared.pose.Pose.{Pose}
-use Rattle.lists.specs.Splice.{splice}
-use Rattle.sheet.specs.Chain.{total}
+use Rattle.lists.specs.Splice.{splice, part-splice}
+use Rattle.task.specs.Task.{taskLength, Given, givenOf}
 use Rattle.spacetime.specs.Walk.{Sheet, listPose, framesOf, frames-pose}
 use Rattle.spacetime.specs.Frames.{Chains}
 use Rattle.manipulability.specs.View.{viewOf}
-use Rattle.self_collision.specs.Pairs.{Paired, chainLengths, lengths-count}
-use Rattle.objective_master.specs.Objective.{count}
-use Rattle.objective_master.specs.Losses.{Given, Lent, lossesOf, objectivesOf, lengths-total}
+use Rattle.self_collision.specs.Pairs.{Paired, chainLengths}
+use Rattle.objective_master.specs.Objective.{objectives}
+use Rattle.objective_master.specs.Losses.{Lent, lossesOf}
+use Rattle.objective_master.specs.Kinds.{kindsOf, kinds-length}
 use Rattle.objective_master.specs.Standing.{Standing}
 use Rattle.objective_master.specs.Count.{objectives-few}
 use Rattle.objective_master.specs.Call.{TwoJoints}
 use Rattle.objective_master.specs.Untouched.{standing-at, losses-ext}
-use Rattle.gradient.specs.Gradient.{posesOf, lossesAt}
+use Rattle.gradient.specs.Gradient.{posesOf, lossesAt, valueAt}
 
--- an accepted sheet with its floats gs, limits, goals and history, and joints x
-pub record Ready (g : Given) (gs x : List Float) : Type 0 where
-  pub sheet : Sheet (g .sizes) (g .codes) gs x
-  pub chains : Chains (g .sizes)
-  pub paired : Paired (g .sizes) (g .codes)
-  pub two : TwoJoints (g .sizes) (g .codes)
-  pub pairs : 2 * length x ≤ length (g .limits)
-  pub each : 13 * length (g .sizes) ≤ length (g .goals)
-  pub now₀ : length x ≤ length (g .xopt)
-  pub now₁ : length x ≤ length (g .«prev_state»)
-  pub now₂ : length x ≤ length (g .«prev_state2»)
+-- an accepted sheet with its floats gs, the list with its weights, limits, goals and history, and joints x
+pub record Ready (ns cs : List ℕ) (task gs x : List Float) : Type 0 where
+  pub sheet : Sheet ns cs gs x
+  pub chains : Chains ns
+  pub paired : Paired ns cs
+  pub two : TwoJoints ns cs
+  pub whole : length task ≡ taskLength
+
+-- the objectives' kinds ks; of block x the value f and the losses, in front of fs; room for poses and for losses
+pub record Known (ns cs : List ℕ) (task gs x : List Float) (ks : List ℕ) (f : Float) (fs ps hs : List Float) : Type 0 where
+  pub kinds : ks ≡ kindsOf ns cs
+  pub value : f ≡ valueAt (givenOf ns cs task) gs x
+  pub losses : take (length ks) fs ≡ lossesAt (givenOf ns cs task) gs x
+  pub first : length ks ≤ length fs
+  pub poses : 7 * length cs ≤ length ps
+  pub again : length ks ≤ length hs
+
+-- the objectives' kinds, n of them, in front of a list that is long enough for any sheet's
+pub record KindsListed (ns cs list : List ℕ) (n : ℕ) : Type 0 where
+  pub front : take n list ≡ kindsOf ns cs
+  pub many : n ≡ length (take n list)
+  pub few : length (take n list) ≤ 131
+  pub within : n ≤ length list
 
 -- ---- laws: another block of as many joints
-pub ready-other : (g : Given) (gs x y : List Float) → length y ≡ length x → Ready g gs x → Ready g gs y
-ready-other g gs x y e r =
-    let s : Sheet (g .sizes) (g .codes) gs x = r .sheet in
+pub ready-other : (ns cs : List ℕ) (task gs x y : List Float) → length y ≡ length x → Ready ns cs task gs x → Ready ns cs task gs y
+ready-other ns cs task gs x y e r =
+    let s : Sheet ns cs gs x = r .sheet in
     record {
       sheet = record { whole = s .whole; chains = s .chains; links = s .links; floats = s .floats; block = e ∙ s .block };
       chains = r .chains;
       paired = r .paired;
       two = r .two;
-      pairs = omega (arith, r .pairs);
-      each = r .each;
-      now₀ = omega (arith, r .now₀);
-      now₁ = omega (arith, r .now₁);
-      now₂ = omega (arith, r .now₂);
+      whole = r .whole;
     }
 
--- ---- chains and joints as code counts them
-module _ (g : Given) (gs x : List Float) (r : Ready g gs x) where
-  abbrev lens : List ℕ
-  lens = chainLengths (g .sizes) (g .codes)
+module _ (ns cs : List ℕ) (task gs x : List Float) (r : Ready ns cs task gs x) where
+  abbrev G : Given
+  G = givenOf ns cs task
 
-  pub joints-are : length x ≡ total lens
-  joints-are = r .sheet .block ∙ sym (lengths-total (g .sizes) (g .codes) (r .sheet .whole))
+  pub kinds-most : length (kindsOf ns cs) ≤ 131
+  kinds-most = omega (arith, kinds-length ns cs, objectives-few ns cs (r .paired .counted) (r .two))
 
-  pub count-least : 6 * length (g .sizes) + length x + 4 ≤ length (objectivesOf g)
-  count-least = omega (arith, count lens, lengths-count (g .sizes) (g .codes), joints-are)
-
-  pub count-most : length (objectivesOf g) ≤ 131
-  count-most = objectives-few (g .sizes) (g .codes) (r .paired .counted) (r .two)
+  -- ---- as `relaxed_ik` leaves the list
+  pub kinds-listed : (rest list : List ℕ) (n : ℕ) → length list ≡ 131 → n ≡ length (objectives (chainLengths ns cs)) → list ≡ splice rest 0 (kindsOf ns cs) → KindsListed ns cs list n
+  kinds-listed rest list n long e h =
+      let f : take n list ≡ kindsOf ns cs = ap (take n) h ∙ part-splice rest 0 n (kindsOf ns cs) (omega arith) (kinds-length ns cs ∙ sym e) in
+      let m : length (take n list) ≡ n = ap length f ∙ kinds-length ns cs ∙ sym e in
+      record { front = f; many = sym m; few = omega (arith, ap length f, kinds-most); within = omega (arith, ap length f, kinds-most) }
 
   -- ---- poses that stand in one list, all of them walked again
-  pub lent-whole : (poses : List Float) → 7 * length (g .codes) ≤ length poses → Lent g x poses poses 0 (length (g .codes))
+  pub lent-whole : (poses : List Float) → 7 * length cs ≤ length poses → Lent ns cs task x poses poses 0 (length cs)
   lent-whole poses h =
       record {
         paired = r .paired;
         chains = r .chains;
         view = record { first = h; again = omega arith };
         values = r .sheet .block;
-        pairs = r .pairs;
-        each = r .each;
-        now₀ = r .now₀;
-        now₁ = r .now₁;
-        now₂ = r .now₂;
+        whole = r .whole;
       }
 
-  pub standing-whole : (P : ℕ → Pose) (out : List Float) → length (objectivesOf g) ≤ length out → Standing g P x 0 (length (g .codes)) 65535 out
-  standing-whole P out h = standing-at g (r .chains) P x out (sym (r .sheet .whole)) h
+  pub standing-whole : (P : ℕ → Pose) (out : List Float) → length (kindsOf ns cs) ≤ length out → Standing G P x 0 (length cs) 65535 out
+  unfolding givenOf
+  standing-whole P out h = standing-at G (r .chains) P x out (sym (r .sheet .whole)) (omega (arith, kinds-length ns cs))
 
-  view-pose : (rest poses : List Float) (l : ℕ) → 7 * length (g .codes) ≤ length rest → poses ≡ splice rest 0 (framesOf (g .sizes) (g .codes) gs x) → l < length (g .codes)
-      → viewOf poses poses 0 (length (g .codes)) l ≡ posesOf g gs x l
-  unfolding viewOf listPose
+  view-pose : (rest poses : List Float) (l : ℕ) → 7 * length cs ≤ length rest → poses ≡ splice rest 0 (framesOf ns cs gs x) → l < length cs
+      → viewOf poses poses 0 (length cs) l ≡ posesOf G gs x l
+  unfolding viewOf listPose givenOf
   view-pose rest poses l room e h =
       let z : l - 0 ≡ l = omega arith in
-      rw (le-leb 0 l (omega arith), lt-ltb l (length (g .codes)) h, z)
-      (ap (λ (p : List Float). listPose p l) e ∙ frames-pose (g .sizes) (g .codes) gs x rest l room h)
+      rw (le-leb 0 l (omega arith), lt-ltb l (length cs) h, z)
+      (ap (λ (p : List Float). listPose p l) e ∙ frames-pose ns cs gs x rest l room h)
 
-  pub losses-walked : (rest poses : List Float) → 7 * length (g .codes) ≤ length rest → poses ≡ splice rest 0 (framesOf (g .sizes) (g .codes) gs x)
-      → lossesOf g (viewOf poses poses 0 (length (g .codes))) x ≡ lossesAt g gs x
-  unfolding lossesAt
+  pub losses-walked : (rest poses : List Float) → 7 * length cs ≤ length rest → poses ≡ splice rest 0 (framesOf ns cs gs x)
+      → lossesOf G (viewOf poses poses 0 (length cs)) x ≡ lossesAt G gs x
+  unfolding lossesAt givenOf
   losses-walked rest poses room e =
-      losses-ext g (viewOf poses poses 0 (length (g .codes))) (posesOf g gs x) x (r .chains) (r .paired)
+      losses-ext G (viewOf poses poses 0 (length cs)) (posesOf G gs x) x (r .chains) (r .paired)
       (λ l h. view-pose rest poses l room e (omega (arith, r .sheet .whole)))

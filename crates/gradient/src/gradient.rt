@@ -1,195 +1,161 @@
-// `gradient`: each objective's slope by a step of 1e-7.
+// `gradient`, each objective's slope by a step of 1e-7, and `gradient_finite_diff`, the slope of the weighted sum by a step of 1e-6: one rule's difference.
 use crate::slopes;
+use crate::slopes::Rule;
 use crate::value;
 use lists;
-use objective_master::count;
+use objective_master::relaxed_ik;
+use task::parts;
 ghost use mathlib.Core.Path.{_≡_};
-ghost use Prim.Native.Nat.{_*_, _≤_, _<_};
-ghost use lib.ListN.{length, take};
+ghost use Prim.Native.Nat.{_≤_, _<_};
+ghost use lib.ListN.{length};
 ghost use Rattle.lists.specs.Splice.{splice};
-ghost use Rattle.objective_master.specs.Losses.{given, objectivesOf};
-ghost use Rattle.gradient.specs.Gradient.{lossesAt, valueAt, gradientAt, gradientOf};
-ghost use Rattle.gradient.specs.Ready.{Ready};
+ghost use Rattle.task.specs.Task.{givenIn};
+ghost use Rattle.gradient.specs.Gradient.{valueAt, slopeAt, slopesOf};
+ghost use Rattle.gradient.specs.Ready.{Ready, Known};
 
-// The slope along joint j, the n losses of the block as it stands being f_0s. The block gets its old value back.
+// What is asked of a joint: its slope under a rule, where the objective's value is f_0.
+struct Asked {
+    rule: Rule,
+    joint: usize,
+    f_0: f64,
+}
+
+// The slope along a joint, the losses of the block as it stands being f_0s. The block gets its old value back.
 fn slope(
-    weights: &[f64],
+    asked: Asked,
     sizes: &[u16],
     codes: &[u16],
-    geo: &[f64],
-    limits: &[f64],
-    goals: &[f64],
-    xopt: &[f64],
-    prev_state: &[f64],
-    prev_state2: &[f64],
+    floats: &[f64],
+    task: &[f64],
     scratch: &mut [f64],
-    j: usize,
-    n: usize,
+    kinds: &[u16],
     f_0s: &[f64],
     poses: &mut [f64],
     f_hs: &mut [f64],
 ) -> f64
-    requires { ⌜ Ready (given (now sizes) (now codes) (now limits) (now goals) (now xopt) (now «prev_state») (now «prev_state2»)) (now geo) (now scratch) × (length (now weights) ≡ 8) × (j < length (now scratch)) ⌝ }
-    requires { ⌜ (n ≡ length (objectivesOf (given (now sizes) (now codes) (now limits) (now goals) (now xopt) (now «prev_state») (now «prev_state2»)))) × (take n (now «f_0s») ≡ lossesAt (given (now sizes) (now codes) (now limits) (now goals) (now xopt) (now «prev_state») (now «prev_state2»)) (now geo) (now scratch)) ⌝ }
-    requires { ⌜ (7 * length (now codes) ≤ length (now poses)) × (n ≤ length (now «f_0s»)) × (n ≤ length (now «f_hs»)) ⌝ }
-    ensures { λ r. ⌜ r ≡ gradientAt (now (weights .entry)) (given (now (sizes .entry)) (now (codes .entry)) (now (limits .entry)) (now (goals .entry)) (now (xopt .entry)) (now («prev_state» .entry)) (now («prev_state2» .entry))) (now (geo .entry)) (now (scratch .entry)) j ⌝ }
+    requires { ⌜ Ready (now sizes) (now codes) (now task) (now floats) (now scratch) × (asked .joint < length (now scratch)) ⌝ }
+    requires { ⌜ Known (now sizes) (now codes) (now task) (now floats) (now scratch) (now kinds) (asked .«f_0») (now «f_0s») (now poses) (now «f_hs») ⌝ }
+    ensures { λ r. ⌜ r ≡ slopeAt (asked .rule) (givenIn sizes codes task) (now (floats .entry)) (now (scratch .entry)) (asked .joint) ⌝ }
     ensures { λ _. ⌜ now (scratch .exit) ≡ now (scratch .entry) ⌝ }
 {
-    let old = scratch[j];
-    scratch[j] = old + 0.0000001;
-    value::losses_of(
-        sizes,
-        codes,
-        geo,
-        limits,
-        goals,
-        xopt,
-        prev_state,
-        prev_state2,
-        scratch,
-        poses,
-        f_hs,
-    );
-    scratch[j] = old;
-    slopes::weighted_slope(weights, sizes.len(), scratch.len(), n, f_0s, f_hs)
+    let joint = asked.joint;
+    let rule = asked.rule;
+    let old = scratch[joint];
+    scratch[joint] = old + slopes::step(rule);
+    value::losses_of(sizes, codes, floats, task, scratch, poses, f_hs);
+    scratch[joint] = old;
+    slopes::slope(rule, parts::weights(task), kinds, asked.f_0, f_0s, f_hs)
 }
 
 // The slopes along all joints.
 fn put_gradient(
-    weights: &[f64],
+    rule: Rule,
     sizes: &[u16],
     codes: &[u16],
-    geo: &[f64],
-    limits: &[f64],
-    goals: &[f64],
-    xopt: &[f64],
-    prev_state: &[f64],
-    prev_state2: &[f64],
+    floats: &[f64],
+    task: &[f64],
     scratch: &mut [f64],
-    n: usize,
+    kinds: &[u16],
+    f_0: f64,
     f_0s: &[f64],
     poses: &mut [f64],
     f_hs: &mut [f64],
     slopes: &mut [f64],
 )
-    requires { ⌜ Ready (given (now sizes) (now codes) (now limits) (now goals) (now xopt) (now «prev_state») (now «prev_state2»)) (now geo) (now scratch) × (length (now weights) ≡ 8) × (length (now scratch) ≤ length (now slopes)) ⌝ }
-    requires { ⌜ (n ≡ length (objectivesOf (given (now sizes) (now codes) (now limits) (now goals) (now xopt) (now «prev_state») (now «prev_state2»)))) × (take n (now «f_0s») ≡ lossesAt (given (now sizes) (now codes) (now limits) (now goals) (now xopt) (now «prev_state») (now «prev_state2»)) (now geo) (now scratch)) ⌝ }
-    requires { ⌜ (7 * length (now codes) ≤ length (now poses)) × (n ≤ length (now «f_0s»)) × (n ≤ length (now «f_hs»)) ⌝ }
-    ensures { λ _. ⌜ now (slopes .exit) ≡ splice (now (slopes .entry)) 0 (gradientOf (now (weights .entry)) (given (now (sizes .entry)) (now (codes .entry)) (now (limits .entry)) (now (goals .entry)) (now (xopt .entry)) (now («prev_state» .entry)) (now («prev_state2» .entry))) (now (geo .entry)) (now (scratch .entry))) ⌝ }
+    requires { ⌜ Ready (now sizes) (now codes) (now task) (now floats) (now scratch) × (length (now scratch) ≤ length (now slopes)) ⌝ }
+    requires { ⌜ Known (now sizes) (now codes) (now task) (now floats) (now scratch) (now kinds) «f_0» (now «f_0s») (now poses) (now «f_hs») ⌝ }
+    ensures { λ _. ⌜ now (slopes .exit) ≡ splice (now (slopes .entry)) 0 (slopesOf rule (givenIn sizes codes task) (now (floats .entry)) (now (scratch .entry))) ⌝ }
     ensures { λ _. ⌜ now (scratch .exit) ≡ now (scratch .entry) ⌝ }
 {
-    let mut j: usize = 0;
-    while j < scratch.len() {
-        slopes[j] = slope(
-            weights,
+    let mut joint: usize = 0;
+    while joint < scratch.len() {
+        let asked = Asked { rule, joint, f_0 };
+        slopes[joint] = slope(
+            asked,
             sizes,
             codes,
-            geo,
-            limits,
-            goals,
-            xopt,
-            prev_state,
-            prev_state2,
+            floats,
+            task,
             scratch,
-            j,
-            n,
+            kinds,
             f_0s,
             poses,
             f_hs,
         );
-        j += 1;
+        joint += 1;
     }
 }
 
 // Value and slopes at the block that scratch holds.
 fn gradient_on(
-    weights: &[f64],
+    rule: Rule,
     sizes: &[u16],
     codes: &[u16],
-    geo: &[f64],
-    limits: &[f64],
-    goals: &[f64],
-    xopt: &[f64],
-    prev_state: &[f64],
-    prev_state2: &[f64],
+    floats: &[f64],
+    task: &[f64],
     scratch: &mut [f64],
     slopes: &mut [f64],
 ) -> f64
-    requires { ⌜ Ready (given (now sizes) (now codes) (now limits) (now goals) (now xopt) (now «prev_state») (now «prev_state2»)) (now geo) (now scratch) × (length (now weights) ≡ 8) × (length (now scratch) ≤ length (now slopes)) ⌝ }
-    ensures { λ r. ⌜ r ≡ valueAt (now (weights .entry)) (given (now (sizes .entry)) (now (codes .entry)) (now (limits .entry)) (now (goals .entry)) (now (xopt .entry)) (now («prev_state» .entry)) (now («prev_state2» .entry))) (now (geo .entry)) (now (scratch .entry)) ⌝ }
-    ensures { λ _. ⌜ now (slopes .exit) ≡ splice (now (slopes .entry)) 0 (gradientOf (now (weights .entry)) (given (now (sizes .entry)) (now (codes .entry)) (now (limits .entry)) (now (goals .entry)) (now (xopt .entry)) (now («prev_state» .entry)) (now («prev_state2» .entry))) (now (geo .entry)) (now (scratch .entry))) ⌝ }
+    requires { ⌜ Ready (now sizes) (now codes) (now task) (now floats) (now scratch) × (length (now scratch) ≤ length (now slopes)) ⌝ }
+    ensures { λ r. ⌜ r ≡ valueAt (givenIn sizes codes task) (now (floats .entry)) (now (scratch .entry)) ⌝ }
+    ensures { λ _. ⌜ now (slopes .exit) ≡ splice (now (slopes .entry)) 0 (slopesOf rule (givenIn sizes codes task) (now (floats .entry)) (now (scratch .entry))) ⌝ }
     ensures { λ _. ⌜ now (scratch .exit) ≡ now (scratch .entry) ⌝ }
 {
     let mut poses = [0.0; 448];
     let mut f_0s = [0.0; 131];
     let mut f_hs = [0.0; 131];
-    let n = count::objective_count(sizes, codes);
-    let obj = value::value_of(
-        weights,
+    let mut list = [0u16; 131];
+    let n = relaxed_ik::relaxed_ik(sizes, codes, &mut list);
+    let f_0 = value::value_of(
         sizes,
         codes,
-        geo,
-        limits,
-        goals,
-        xopt,
-        prev_state,
-        prev_state2,
+        floats,
+        task,
         scratch,
-        n,
+        &list[..n],
         &mut poses,
         &mut f_0s,
     );
     put_gradient(
-        weights,
+        rule,
         sizes,
         codes,
-        geo,
-        limits,
-        goals,
-        xopt,
-        prev_state,
-        prev_state2,
+        floats,
+        task,
         scratch,
-        n,
+        &list[..n],
+        f_0,
         &f_0s,
         &mut poses,
         &mut f_hs,
         slopes,
     );
-    obj
+    f_0
 }
 
 // The joints are read; scratch is raised joint by joint, and holds the joints in the end.
 pub fn gradient(
-    weights: &[f64],
+    rule: Rule,
     sizes: &[u16],
     codes: &[u16],
-    geo: &[f64],
-    limits: &[f64],
-    goals: &[f64],
-    xopt: &[f64],
-    prev_state: &[f64],
-    prev_state2: &[f64],
+    floats: &[f64],
+    task: &[f64],
     joints: &[f64],
     scratch: &mut [f64],
     slopes: &mut [f64],
 ) -> f64
-    requires { ⌜ Ready (given (now sizes) (now codes) (now limits) (now goals) (now xopt) (now «prev_state») (now «prev_state2»)) (now geo) (now joints) × (length (now weights) ≡ 8) × (length (now joints) ≤ length (now scratch)) × (length (now joints) ≤ length (now slopes)) ⌝ }
-    ensures { λ r. ⌜ r ≡ valueAt (now (weights .entry)) (given (now (sizes .entry)) (now (codes .entry)) (now (limits .entry)) (now (goals .entry)) (now (xopt .entry)) (now («prev_state» .entry)) (now («prev_state2» .entry))) (now (geo .entry)) (now (joints .entry)) ⌝ }
-    ensures { λ _. ⌜ now (slopes .exit) ≡ splice (now (slopes .entry)) 0 (gradientOf (now (weights .entry)) (given (now (sizes .entry)) (now (codes .entry)) (now (limits .entry)) (now (goals .entry)) (now (xopt .entry)) (now («prev_state» .entry)) (now («prev_state2» .entry))) (now (geo .entry)) (now (joints .entry))) ⌝ }
+    requires { ⌜ Ready (now sizes) (now codes) (now task) (now floats) (now joints) × (length (now joints) ≤ length (now scratch)) × (length (now joints) ≤ length (now slopes)) ⌝ }
+    ensures { λ r. ⌜ r ≡ valueAt (givenIn sizes codes task) (now (floats .entry)) (now (joints .entry)) ⌝ }
+    ensures { λ _. ⌜ now (slopes .exit) ≡ splice (now (slopes .entry)) 0 (slopesOf rule (givenIn sizes codes task) (now (floats .entry)) (now (joints .entry))) ⌝ }
     ensures { λ _. ⌜ now (scratch .exit) ≡ splice (now (scratch .entry)) 0 (now (joints .entry)) ⌝ }
 {
     lists::copy_floats(joints, scratch);
     gradient_on(
-        weights,
+        rule,
         sizes,
         codes,
-        geo,
-        limits,
-        goals,
-        xopt,
-        prev_state,
-        prev_state2,
+        floats,
+        task,
         &mut scratch[..joints.len()],
         slopes,
     )

@@ -1,13 +1,16 @@
 // The objective at a block of joints that is walked afresh.
-use objective_master::call;
-use objective_master::count;
 use objective_master::losses;
+use objective_master::losses::Walked;
+use objective_master::relaxed_ik;
+use objective_master::weights;
 use spacetime::arm;
+use task::parts;
 ghost use mathlib.Core.Path.{_≡_};
 ghost use Prim.Native.Nat.{_*_, _≤_};
 ghost use lib.ListN.{length};
 ghost use Rattle.lists.specs.Splice.{splice};
-ghost use Rattle.objective_master.specs.Losses.{given, objectivesOf};
+ghost use Rattle.task.specs.Task.{givenIn};
+ghost use Rattle.objective_master.specs.Kinds.{kindsOf};
 ghost use Rattle.gradient.specs.Gradient.{lossesAt, valueAt};
 ghost use Rattle.gradient.specs.Ready.{Ready};
 
@@ -15,106 +18,60 @@ ghost use Rattle.gradient.specs.Ready.{Ready};
 pub fn losses_of(
     sizes: &[u16],
     codes: &[u16],
-    geo: &[f64],
-    limits: &[f64],
-    goals: &[f64],
-    xopt: &[f64],
-    prev_state: &[f64],
-    prev_state2: &[f64],
+    floats: &[f64],
+    task: &[f64],
     x: &[f64],
     poses: &mut [f64],
     out: &mut [f64],
 )
-    requires { ⌜ Ready (given (now sizes) (now codes) (now limits) (now goals) (now xopt) (now «prev_state») (now «prev_state2»)) (now geo) (now x) ⌝ }
-    requires { ⌜ (7 * length (now codes) ≤ length (now poses)) × (length (objectivesOf (given (now sizes) (now codes) (now limits) (now goals) (now xopt) (now «prev_state») (now «prev_state2»))) ≤ length (now out)) ⌝ }
-    ensures { λ _. ⌜ now (out .exit) ≡ splice (now (out .entry)) 0 (lossesAt (given (now (sizes .entry)) (now (codes .entry)) (now (limits .entry)) (now (goals .entry)) (now (xopt .entry)) (now («prev_state» .entry)) (now («prev_state2» .entry))) (now (geo .entry)) (now (x .entry))) ⌝ }
+    requires { ⌜ Ready (now sizes) (now codes) (now task) (now floats) (now x) ⌝ }
+    requires { ⌜ (7 * length (now codes) ≤ length (now poses)) × (length (kindsOf (now sizes) (now codes)) ≤ length (now out)) ⌝ }
+    ensures { λ _. ⌜ now (out .exit) ≡ splice (now (out .entry)) 0 (lossesAt (givenIn sizes codes task) (now (floats .entry)) (now (x .entry))) ⌝ }
 {
-    arm::get_frames_immutable(sizes, codes, geo, x, poses);
-    losses::put_losses(
-        sizes,
-        codes,
-        limits,
-        goals,
-        xopt,
-        prev_state,
-        prev_state2,
-        x,
-        poses,
-        poses,
-        0,
-        codes.len(),
-        65535,
-        out,
-    );
+    arm::get_frames_immutable(sizes, codes, floats, x, poses);
+    let all = Walked {
+        from: 0,
+        to: codes.len(),
+        joint: 65535,
+    };
+    losses::put_losses(sizes, codes, task, x, poses, poses, all, out);
 }
 
-// The objective's value, n being the count of objectives; `out` gets the losses.
+// The objective's value; `out` gets the losses.
 pub fn value_of(
-    weights: &[f64],
     sizes: &[u16],
     codes: &[u16],
-    geo: &[f64],
-    limits: &[f64],
-    goals: &[f64],
-    xopt: &[f64],
-    prev_state: &[f64],
-    prev_state2: &[f64],
+    floats: &[f64],
+    task: &[f64],
     x: &[f64],
-    n: usize,
+    kinds: &[u16],
     poses: &mut [f64],
     out: &mut [f64],
 ) -> f64
-    requires { ⌜ Ready (given (now sizes) (now codes) (now limits) (now goals) (now xopt) (now «prev_state») (now «prev_state2»)) (now geo) (now x) × (length (now weights) ≡ 8) ⌝ }
-    requires { ⌜ (n ≡ length (objectivesOf (given (now sizes) (now codes) (now limits) (now goals) (now xopt) (now «prev_state») (now «prev_state2»)))) × (7 * length (now codes) ≤ length (now poses)) × (n ≤ length (now out)) ⌝ }
-    ensures { λ r. ⌜ r ≡ valueAt (now (weights .entry)) (given (now (sizes .entry)) (now (codes .entry)) (now (limits .entry)) (now (goals .entry)) (now (xopt .entry)) (now («prev_state» .entry)) (now («prev_state2» .entry))) (now (geo .entry)) (now (x .entry)) ⌝ }
-    ensures { λ _. ⌜ now (out .exit) ≡ splice (now (out .entry)) 0 (lossesAt (given (now (sizes .entry)) (now (codes .entry)) (now (limits .entry)) (now (goals .entry)) (now (xopt .entry)) (now («prev_state» .entry)) (now («prev_state2» .entry))) (now (geo .entry)) (now (x .entry))) ⌝ }
+    requires { ⌜ Ready (now sizes) (now codes) (now task) (now floats) (now x) × (now kinds ≡ kindsOf (now sizes) (now codes)) ⌝ }
+    requires { ⌜ (7 * length (now codes) ≤ length (now poses)) × (length (now kinds) ≤ length (now out)) ⌝ }
+    ensures { λ r. ⌜ r ≡ valueAt (givenIn sizes codes task) (now (floats .entry)) (now (x .entry)) ⌝ }
+    ensures { λ _. ⌜ now (out .exit) ≡ splice (now (out .entry)) 0 (lossesAt (givenIn sizes codes task) (now (floats .entry)) (now (x .entry))) ⌝ }
 {
-    losses_of(
-        sizes,
-        codes,
-        geo,
-        limits,
-        goals,
-        xopt,
-        prev_state,
-        prev_state2,
-        x,
-        poses,
-        out,
-    );
-    call::sum_of(weights, sizes.len(), x.len(), out, n)
+    losses_of(sizes, codes, floats, task, x, poses, out);
+    weights::weighted_sum(parts::weights(task), kinds, out)
 }
 
-pub fn objective(
-    weights: &[f64],
-    sizes: &[u16],
-    codes: &[u16],
-    geo: &[f64],
-    limits: &[f64],
-    goals: &[f64],
-    xopt: &[f64],
-    prev_state: &[f64],
-    prev_state2: &[f64],
-    x: &[f64],
-) -> f64
-    requires { ⌜ Ready (given (now sizes) (now codes) (now limits) (now goals) (now xopt) (now «prev_state») (now «prev_state2»)) (now geo) (now x) × (length (now weights) ≡ 8) ⌝ }
-    ensures { λ r. ⌜ r ≡ valueAt (now (weights .entry)) (given (now (sizes .entry)) (now (codes .entry)) (now (limits .entry)) (now (goals .entry)) (now (xopt .entry)) (now («prev_state» .entry)) (now («prev_state2» .entry))) (now (geo .entry)) (now (x .entry)) ⌝ }
+pub fn objective(sizes: &[u16], codes: &[u16], floats: &[f64], task: &[f64], x: &[f64]) -> f64
+    requires { ⌜ Ready (now sizes) (now codes) (now task) (now floats) (now x) ⌝ }
+    ensures { λ r. ⌜ r ≡ valueAt (givenIn sizes codes task) (now (floats .entry)) (now (x .entry)) ⌝ }
 {
     let mut poses = [0.0; 448];
     let mut losses = [0.0; 131];
-    let n = count::objective_count(sizes, codes);
+    let mut kinds = [0u16; 131];
+    let n = relaxed_ik::relaxed_ik(sizes, codes, &mut kinds);
     value_of(
-        weights,
         sizes,
         codes,
-        geo,
-        limits,
-        goals,
-        xopt,
-        prev_state,
-        prev_state2,
+        floats,
+        task,
         x,
-        n,
+        &kinds[..n],
         &mut poses,
         &mut losses,
     )

@@ -2,14 +2,15 @@
 use mathlib.Core.List.{List, [], _∷_}
 use Prim.Native.Nat.{ℕ, _*_}
 use lib.Ieee.{Float}
-use lib.ListN.{take, drop}
 use Rattle.sheet.specs.Chain.{joints}
+use Rattle.task.specs.Task.{part, Given}
 use Rattle.refusals.specs.Lengths.{scratchLength, slopesLength, valueLength}
 use Rattle.refusals.specs.Lowest.{firstOf}
 use Rattle.refusals.specs.Refusal.{chainsOf, linksOf, blockRefusal, historyRefusal, goalsRefusal, roomRefusal}
-use Rattle.objective_master.specs.Losses.{Given, given}
 use Rattle.objective_master.specs.Weights.{weightPriors}
-use Rattle.gradient.specs.Gradient.{valueAt, gradientOf, finiteDiffOf}
+use Rattle.gradient.specs.Gradient.{valueAt, slopesOf}
+use Rattle.gradient.specs.declared.slopes.Rule.{Rule}
+use Rattle.gradient.specs.declared.slopes.Rule.the-variants.{EachLoss, WeightedSum}
 use Rattle.lent_bytes.specs.SheetLists.{SheetLists}
 use Rattle.arm_bytes.specs.ArmCalls.{loadNumber}
 
@@ -31,27 +32,35 @@ slopesNumber s goals history x scratch value slopes =
     (firstOf (roomRefusal (scratchLength (s .codes)) scratch) (firstOf (roomRefusal valueLength value) (roomRefusal (slopesLength (s .codes)) slopes)))
 
 -- ---- what they write, in floats
--- n floats of a history from at on
-unfoldable pub blockFrom : ℕ → ℕ → List Float → List Float
-blockFrom at n history = take n (drop at history)
-
--- what the objective is given: the history's blocks are xopt, prev_state and prev_state2; the fourth is not read
-abbrev pub givenIn : SheetLists → List Float → List Float → Given
+-- what the objective is given: the built-in weights, and the history's blocks xopt, prev_state and prev_state2; the fourth is not read
+unfoldable pub givenIn : SheetLists → List Float → List Float → Given
 givenIn s goals history =
-    given (linksOf (s .sizes)) (s .codes) (s .limits) goals (blockFrom 0 (joints (s .codes)) history) (blockFrom (joints (s .codes)) (joints (s .codes)) history)
-    (blockFrom (2 * joints (s .codes)) (joints (s .codes)) history)
+    record {
+      sizes = linksOf (s .sizes);
+      codes = s .codes;
+      weights = weightPriors;
+      limits = s .limits;
+      goals = goals;
+      xopt = part 0 (joints (s .codes)) history;
+      «prev_state» = part (joints (s .codes)) (joints (s .codes)) history;
+      «prev_state2» = part (2 * joints (s .codes)) (joints (s .codes)) history;
+    }
 
--- the objective's value at block x, with the built-in weights
+-- the objective's value at block x
 unfoldable pub valueIn : SheetLists → List Float → List Float → List Float → Float
-valueIn s goals history x = valueAt weightPriors (givenIn s goals history) (s .floats) x
+valueIn s goals history x = valueAt (givenIn s goals history) (s .floats) x
 
 -- as one float
 abbrev pub objectiveValue : SheetLists → List Float → List Float → List Float → List Float
 objectiveValue s goals history x = valueIn s goals history x ∷ []
 
--- the slopes along the joints, by steps of 1e-7 and of 1e-6
-unfoldable pub gradientSlopes : SheetLists → List Float → List Float → List Float → List Float
-gradientSlopes s goals history x = gradientOf weightPriors (givenIn s goals history) (s .floats) x
+-- the slopes along the joints, by either rule
+unfoldable pub slopesIn : Rule → SheetLists → List Float → List Float → List Float → List Float
+slopesIn rule s goals history x = slopesOf rule (givenIn s goals history) (s .floats) x
 
-unfoldable pub finiteDiffSlopes : SheetLists → List Float → List Float → List Float → List Float
-finiteDiffSlopes s goals history x = finiteDiffOf weightPriors (givenIn s goals history) (s .floats) x
+-- by steps of 1e-7 and of 1e-6
+abbrev pub gradientSlopes : SheetLists → List Float → List Float → List Float → List Float
+gradientSlopes s goals history x = slopesIn EachLoss s goals history x
+
+abbrev pub finiteDiffSlopes : SheetLists → List Float → List Float → List Float → List Float
+finiteDiffSlopes s goals history x = slopesIn WeightedSum s goals history x

@@ -1,80 +1,133 @@
 -- Laws of the byte calls on the objective, for their proofs.
-use mathlib.Core.Path.{_≡_, refl, ap, _∙_}
+use mathlib.Core.Path.{_≡_, refl, sym, ap, _∙_, subst}
 use mathlib.Core.List.{List}
-use Prim.Native.Nat.{ℕ, _+_, _*_, _≤_}
+use Prim.Native.Nat.{ℕ, _*_, _≤_}
 use native.Mathlib.Omega.{arith}
 use lib.Ieee.{Float}
-use lib.ListN.{length, drop, length-drop}
-use lib.Seq.{length-take-le}
+use lib.ListN.{length, take}
+use lib.Seq.{take-all}
 use Rattle.sheet.specs.Chain.{joints}
+use Rattle.task.specs.Task.{part, taskLength, givenOf, part-length}
+use Rattle.task.specs.Laid.{Apart, apartIn, laid, Fit, Full, givenApart, laid-given}
 use Rattle.refusals.specs.Lowest.{first-none}
+use Rattle.refusals.specs.Refusal.{linksOf}
 use Rattle.refusals.specs.Passed.{load-passed, block-passed, history-passed, goals-passed}
-use Rattle.objective_master.specs.Losses.{given}
 use Rattle.objective_master.specs.Weights.{weightPriors}
-use Rattle.gradient.specs.Gradient.{gradient-length, finite-diff-length}
+use Rattle.gradient.specs.Gradient.{slopes-length}
 use Rattle.gradient.specs.Ready.{Ready}
-use Rattle.objective_calls.specs.Aimed.{load-aimed, ready-of}
+use Rattle.gradient.specs.declared.slopes.Rule.{Rule}
+use Rattle.objective_calls.specs.Aimed.{ready-of, load-aimed}
 use Rattle.lent_bytes.specs.Lent.{roomIn}
-use Rattle.lent_bytes.specs.SheetLists.{SheetLists, same-three}
+use Rattle.lent_bytes.specs.SheetLists.{SheetLists, same-two, same-three}
 use Rattle.arm_bytes.specs.ArmLaws.{bytes-fit}
-use Rattle.objective_bytes.specs.ObjectiveCalls.{aimedNumber, slopesNumber, blockFrom, givenIn, gradientSlopes, finiteDiffSlopes}
+use Rattle.objective_bytes.specs.ObjectiveCalls.{aimedNumber, slopesNumber, givenIn, slopesIn}
 
-pub block-from-length : (at n : ℕ) (history : List Float) → at + n ≤ length history → length (blockFrom at n history) ≡ n
-unfolding blockFrom
-block-from-length at n history h = length-take-le n (drop at history) (omega (arith, length-drop at history))
-
-pub eight-weights : length weightPriors ≡ 8
+eight-weights : length weightPriors ≡ 8
 unfolding weightPriors
 eight-weights = refl
 
 -- what a call knows whose sheet, joints, history and goals are accepted
 pub record Taken (s : SheetLists) (goals history x : List Float) : Type 0 where
-  pub ready : Ready (givenIn s goals history) (s .floats) x
   pub block : length x ≡ joints (s .codes)
-  pub blocks : length history ≡ 4 * joints (s .codes)
   pub few : joints (s .codes) ≤ 16
+  pub blocks : length history ≡ 4 * joints (s .codes)
+  pub pairs : length (s .limits) ≡ 2 * joints (s .codes)
+  pub each : length goals ≡ 13 * length (linksOf (s .sizes))
+  pub chains : length (linksOf (s .sizes)) ≤ 4
+  pub ready : (task : List Float) → length task ≡ taskLength → Ready (linksOf (s .sizes)) (s .codes) task (s .floats) x
 
 pub aimed-taken : (s : SheetLists) (goals history x : List Float) → aimedNumber s goals history x ≡ 0 → Taken s goals history x
 unfolding aimedNumber
 aimed-taken s goals history x e =
-    let n = joints (s .codes) in
     let a = first-none _ _ e in
     let b = first-none _ _ (a .1) in
     let d = first-none _ _ (b .0) in
-    let few : n ≤ 16 = load-passed (s .sizes) (s .codes) (s .floats) (s .limits) (a .0) .0 .moving in
-    let block : length x ≡ n = block-passed (s .codes) x (d .0) in
-    let blocks : length history ≡ 4 * n = history-passed (s .codes) history (d .1) in
-    let g = goals-passed _ goals (b .1) in
-    let l₀ = block-from-length 0 n history (omega (arith, blocks)) in
-    let l₁ = block-from-length n n history (omega (arith, blocks)) in
-    let l₂ = block-from-length (2 * n) n history (omega (arith, blocks)) in
+    let l = load-passed (s .sizes) (s .codes) (s .floats) (s .limits) (a .0) in
     record {
-      ready = ready-of weightPriors (givenIn s goals history) (s .floats) x
-          (load-aimed weightPriors (s .sizes) (s .codes) (s .floats) (s .limits) goals _ _ _ eight-weights (omega (arith, g)) (omega (arith, l₀)) (omega (arith, l₁)) (omega (arith, l₂)) (a .0))
-          (d .0);
-      block = block;
-      blocks = blocks;
-      few = few;
+      block = block-passed (s .codes) x (d .0);
+      few = l .0 .moving;
+      blocks = history-passed (s .codes) history (d .1);
+      pairs = l .1;
+      each = goals-passed _ goals (b .1) ∙ ap (λ (n : ℕ). 13 * n) (sym (l .0 .sized .long));
+      chains = omega (arith, l .0 .sized .long, l .0 .sized .few);
+      ready = λ task w. ready-of (linksOf (s .sizes)) (s .codes) task (s .floats) x (load-aimed (s .sizes) (s .codes) task (s .floats) w (s .limits) (a .0)) (d .0);
     }
 
--- as many slopes as joints
-pub gradient-slopes-length : (s : SheetLists) (goals history x : List Float) → length (gradientSlopes s goals history x) ≡ length x
-unfolding gradientSlopes
-gradient-slopes-length s goals history x = gradient-length weightPriors (givenIn s goals history) (s .floats) x
+-- ---- the list that such a call lays
+module _ (s : SheetLists) (goals history x : List Float) (k : Taken s goals history x) where
+  abbrev N : ℕ
+  N = joints (s .codes)
 
-pub finite-diff-slopes-length : (s : SheetLists) (goals history x : List Float) → length (finiteDiffSlopes s goals history x) ≡ length x
-unfolding finiteDiffSlopes
-finite-diff-slopes-length s goals history x = finite-diff-length weightPriors (givenIn s goals history) (s .floats) x
+  abbrev lists : ℕ → Apart
+  lists n = apartIn weightPriors (s .limits) goals history n
+
+  -- the blocks of the history
+  block₀ : length (part 0 N history) ≡ N
+  block₀ = part-length 0 N history (omega (arith, k .blocks))
+
+  block₁ : length (part N N history) ≡ N
+  block₁ = part-length N N history (omega (arith, k .blocks))
+
+  block₂ : length (part (2 * N) N history) ≡ N
+  block₂ = part-length (2 * N) N history (omega (arith, k .blocks))
+
+  fit : Fit (lists N)
+  fit =
+      record {
+        weights = omega (arith, eight-weights);
+        limits = omega (arith, k .pairs, k .few);
+        goals = omega (arith, k .each, k .chains);
+        xopt = omega (arith, block₀, k .few);
+        «prev_state» = omega (arith, block₁, k .few);
+        «prev_state2» = omega (arith, block₂, k .few);
+      }
+
+  full : Full (linksOf (s .sizes)) (s .codes) (lists N)
+  full =
+      record {
+        weights = omega (arith, eight-weights);
+        limits = omega (arith, k .pairs);
+        goals = omega (arith, k .each);
+        xopt = omega (arith, block₀);
+        «prev_state» = omega (arith, block₁);
+        «prev_state2» = omega (arith, block₂);
+      }
+
+  -- each list is lent as long as it is in use
+  apart-taken : givenApart (linksOf (s .sizes)) (s .codes) (lists N) ≡ givenIn s goals history
+  unfolding givenApart givenIn
+  apart-taken =
+      let e₁ : take 8 weightPriors ≡ weightPriors = take-all 8 weightPriors (omega (arith, eight-weights)) in
+      let e₂ : take (2 * N) (s .limits) ≡ s .limits = take-all (2 * N) (s .limits) (omega (arith, k .pairs)) in
+      let e₃ : take (13 * length (linksOf (s .sizes))) goals ≡ goals = take-all (13 * length (linksOf (s .sizes))) goals (omega (arith, k .each)) in
+      let e₄ : take N (part 0 N history) ≡ part 0 N history = take-all N (part 0 N history) (omega (arith, block₀)) in
+      let e₅ : take N (part N N history) ≡ part N N history = take-all N (part N N history) (omega (arith, block₁)) in
+      let e₆ : take N (part (2 * N) N history) ≡ part (2 * N) N history = take-all N (part (2 * N) N history) (omega (arith, block₂)) in
+      rw (e₁, e₂, e₃, e₄, e₅, e₆)
+
+  -- as a call asks for it, which lays blocks as long as the joints
+  pub fit-taken : Fit (lists (length x))
+  fit-taken = subst (λ n. Fit (lists n)) (sym (k .block)) fit
+
+  -- the objective finds in it what is lent
+  pub laid-taken : (ns : List ℕ) (t task : List Float) → ns ≡ linksOf (s .sizes) → length t ≡ taskLength → task ≡ laid (lists (length x)) t
+      → givenOf ns (s .codes) task ≡ givenIn s goals history
+  laid-taken ns t task e w h =
+      same-two (λ ns′ t′. givenOf ns′ (s .codes) t′) e (h ∙ ap (λ n. laid (lists n) t) (k .block))
+      ∙ laid-given (lists N) t w fit (linksOf (s .sizes)) (s .codes) full (k .chains) (k .few)
+      ∙ apart-taken
+
+  pub ready-taken : (ns : List ℕ) (task : List Float) → ns ≡ linksOf (s .sizes) → length task ≡ taskLength → Ready ns (s .codes) task (s .floats) x
+  ready-taken ns task e w = subst (λ ns′. Ready ns′ (s .codes) task (s .floats) x) (sym e) (k .ready task w)
+
+-- as many slopes as joints
+pub slopes-in-length : (rule : Rule) (s : SheetLists) (goals history x : List Float) → length (slopesIn rule s goals history x) ≡ length x
+unfolding slopesIn
+slopes-in-length rule s goals history x = slopes-length rule (givenIn s goals history) (s .floats) x
 
 -- lists that are equal
 pub same-four : {A B C D E : Type 0} (f : A → B → C → D → E) {a a′ : A} {b b′ : B} {c c′ : C} {d d′ : D} → a ≡ a′ → b ≡ b′ → c ≡ c′ → d ≡ d′ → f a b c d ≡ f a′ b′ c′ d′
 same-four f {a′ = a′} {b′ = b′} {c′ = c′} {d = d} p q r t = same-three (λ a b c. f a b c d) p q r ∙ ap (f a′ b′ c′) t
-
-pub same-given : {ns ns′ : List ℕ} (cs : List ℕ) (limits goals : List Float) {x x′ p p′ q q′ : List Float} → ns ≡ ns′ → x ≡ x′ → p ≡ p′ → q ≡ q′
-    → given ns cs limits goals x p q ≡ given ns′ cs limits goals x′ p′ q′
-same-given {ns′ = ns′} cs limits goals {x = x} {x′ = x′} {p = p} {p′ = p′} {q = q} e₁ e₂ e₃ e₄ =
-    ap (λ n. given n cs limits goals x p q) e₁ ∙ ap (λ y. given ns′ cs limits goals y p q) e₂ ∙ ap (λ y. given ns′ cs limits goals x′ y q) e₃
-    ∙ ap (λ y. given ns′ cs limits goals x′ p′ y) e₄
 
 -- what a gradient knows that is accepted with outputs of so many bytes
 pub record Fitted (s : SheetLists) (goals history x : List Float) (a b d : ℕ) : Type 0 where

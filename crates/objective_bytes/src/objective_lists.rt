@@ -1,6 +1,6 @@
 // What the byte calls on the objective do once their lists are decoded; outputs are bytes.
-use gradient::finite_diff;
 use gradient::gradient as slopes_of;
+use gradient::slopes::Rule;
 use gradient::value as value_of;
 use lent_bytes::lent as bytes_lent;
 use objective_master::weights;
@@ -8,16 +8,19 @@ use refusals::lengths;
 use refusals::lent;
 use refusals::load;
 use refusals::shape;
+use task::lay;
 ghost use mathlib.Core.Path.{_≡_};
-ghost use Prim.Native.Nat.{_+_, _*_, _≤_};
+ghost use Prim.Native.Nat.{_*_, _≤_};
 ghost use lib.ListN.{length, take};
 ghost use mathlib.Core.List.{[], _∷_};
 ghost use Rattle.lists.specs.Splice.{splice};
+ghost use Rattle.task.specs.Task.{taskLength};
+ghost use Rattle.task.specs.Laid.{apartIn, Fit, laid};
+ghost use Rattle.objective_master.specs.Weights.{weightPriors};
 ghost use Rattle.lent_bytes.specs.Lent.{roomIn, bytesOf};
 ghost use Rattle.lent_bytes.specs.SheetLists.{lent, sheetWith, sheetOf, roomOf};
 ghost use Rattle.arm_bytes.specs.ArmCalls.{outputOf};
-ghost use Rattle.objective_bytes.specs.ObjectiveCalls.{aimedNumber, objectiveNumber, slopesNumber, blockFrom};
-ghost use Rattle.objective_bytes.specs.ObjectiveCalls.{valueIn, objectiveValue, gradientSlopes, finiteDiffSlopes};
+ghost use Rattle.objective_bytes.specs.ObjectiveCalls.{aimedNumber, objectiveNumber, slopesNumber, valueIn, objectiveValue, slopesIn};
 
 pub fn aimed_number(
     sizes: &[u16],
@@ -64,13 +67,14 @@ fn slopes_number(
     lent::first_of(aimed, lent::first_of(first, lent::first_of(second, third)))
 }
 
-// A block of n joints of a history.
-pub fn block_from(history: &[f64], at: usize, n: usize) -> &[f64]
-    requires { ⌜ at + n ≤ length (now history) ⌝ }
-    ensures { λ r. ⌜ now r ≡ blockFrom at n (now (history .entry)) ⌝ }
+// The list that the objective reads, with the built-in weights, for n joints.
+pub fn lay_task(limits: &[f64], goals: &[f64], history: &[f64], n: usize, task: &mut [f64])
+    requires { ⌜ (length (now task) ≡ taskLength) × (n ≤ 16) × (3 * n ≤ length (now history)) ⌝ }
+    requires { ⌜ Fit (apartIn weightPriors (now limits) (now goals) (now history) n) ⌝ }
+    ensures { λ _. ⌜ now (task .exit) ≡ laid (apartIn weightPriors (lent limits) (lent goals) (lent history) n) (lent task) ⌝ }
 {
-    let end = at + n;
-    &history[at..end]
+    let w = weights::weight_priors();
+    lay::lay_lent(&w, limits, goals, history, n, task);
 }
 
 fn value_on(
@@ -85,28 +89,15 @@ fn value_on(
     requires { ⌜ aimedNumber (sheetWith (now sizes) (now codes) (now floats) (now limits)) (now goals) (now history) (now joints) ≡ 0 ⌝ }
     ensures { λ r. ⌜ r ≡ valueIn (sheetOf sizes codes floats limits) (lent goals) (lent history) (lent joints) ⌝ }
 {
-    let w = weights::weight_priors();
     let counts = shape::links(sizes);
-    let n = joints.len();
-    let xopt = block_from(history, 0, n);
-    let prev_state = block_from(history, n, n);
-    let prev_state2 = block_from(history, 2 * n, n);
-    value_of::objective(
-        &w,
-        counts,
-        codes,
-        floats,
-        limits,
-        goals,
-        xopt,
-        prev_state,
-        prev_state2,
-        joints,
-    )
+    let mut task = [0.0; task::LENGTH];
+    lay_task(limits, goals, history, joints.len(), &mut task);
+    value_of::objective(counts, codes, floats, &task, joints)
 }
 
-// Value and slopes; `scratch` holds the joints in the end.
-fn gradient_on(
+// Value and slopes by either rule; `scratch` holds the joints in the end.
+fn slopes_on(
+    rule: Rule,
     sizes: &[u16],
     codes: &[u16],
     floats: &[f64],
@@ -119,68 +110,13 @@ fn gradient_on(
 ) -> f64
     requires { ⌜ (aimedNumber (sheetWith (now sizes) (now codes) (now floats) (now limits)) (now goals) (now history) (now joints) ≡ 0) × (length (now scratch) ≡ 16) × (length (now slopes) ≡ 16) ⌝ }
     ensures { λ r. ⌜ r ≡ valueIn (sheetOf sizes codes floats limits) (lent goals) (lent history) (lent joints) ⌝ }
-    ensures { λ _. ⌜ now (slopes .exit) ≡ splice (lent slopes) 0 (gradientSlopes (sheetOf sizes codes floats limits) (lent goals) (lent history) (lent joints)) ⌝ }
+    ensures { λ _. ⌜ now (slopes .exit) ≡ splice (lent slopes) 0 (slopesIn rule (sheetOf sizes codes floats limits) (lent goals) (lent history) (lent joints)) ⌝ }
     ensures { λ _. ⌜ now (scratch .exit) ≡ splice (lent scratch) 0 (lent joints) ⌝ }
 {
-    let w = weights::weight_priors();
     let counts = shape::links(sizes);
-    let n = joints.len();
-    let xopt = block_from(history, 0, n);
-    let prev_state = block_from(history, n, n);
-    let prev_state2 = block_from(history, 2 * n, n);
-    slopes_of::gradient(
-        &w,
-        counts,
-        codes,
-        floats,
-        limits,
-        goals,
-        xopt,
-        prev_state,
-        prev_state2,
-        joints,
-        scratch,
-        slopes,
-    )
-}
-
-// The same by the step of 1e-6.
-fn finite_diff_on(
-    sizes: &[u16],
-    codes: &[u16],
-    floats: &[f64],
-    limits: &[f64],
-    goals: &[f64],
-    history: &[f64],
-    joints: &[f64],
-    scratch: &mut [f64],
-    slopes: &mut [f64],
-) -> f64
-    requires { ⌜ (aimedNumber (sheetWith (now sizes) (now codes) (now floats) (now limits)) (now goals) (now history) (now joints) ≡ 0) × (length (now scratch) ≡ 16) × (length (now slopes) ≡ 16) ⌝ }
-    ensures { λ r. ⌜ r ≡ valueIn (sheetOf sizes codes floats limits) (lent goals) (lent history) (lent joints) ⌝ }
-    ensures { λ _. ⌜ now (slopes .exit) ≡ splice (lent slopes) 0 (finiteDiffSlopes (sheetOf sizes codes floats limits) (lent goals) (lent history) (lent joints)) ⌝ }
-    ensures { λ _. ⌜ now (scratch .exit) ≡ splice (lent scratch) 0 (lent joints) ⌝ }
-{
-    let w = weights::weight_priors();
-    let counts = shape::links(sizes);
-    let n = joints.len();
-    let xopt = block_from(history, 0, n);
-    let prev_state = block_from(history, n, n);
-    let prev_state2 = block_from(history, 2 * n, n);
-    finite_diff::gradient_finite_diff(
-        &w,
-        counts,
-        codes,
-        floats,
-        limits,
-        goals,
-        xopt,
-        prev_state,
-        prev_state2,
-        joints,
-        scratch,
-        slopes,
-    )
+    let mut task = [0.0; task::LENGTH];
+    lay_task(limits, goals, history, joints.len(), &mut task);
+    slopes_of::gradient(rule, counts, codes, floats, &task, joints, scratch, slopes)
 }
 
 // The first n of x and of d, and v, as bytes.
@@ -230,6 +166,7 @@ pub(crate) fn objective(
 }
 
 pub(crate) fn gradient(
+    rule: Rule,
     sizes: &[u16],
     codes: &[u16],
     floats: &[f64],
@@ -244,7 +181,7 @@ pub(crate) fn gradient(
     ensures number { λ r. ⌜ r ≡ slopesNumber (sheetOf sizes codes floats limits) (lent goals) (lent history) (lent joints) (roomOf scratch) (roomOf value) (roomOf slopes) ⌝ }
     ensures scratch { λ r. ⌜ now (scratch .exit) ≡ outputOf r scratch (lent joints) ⌝ }
     ensures value { λ r. ⌜ now (value .exit) ≡ outputOf r value (objectiveValue (sheetOf sizes codes floats limits) (lent goals) (lent history) (lent joints)) ⌝ }
-    ensures slopes { λ r. ⌜ now (slopes .exit) ≡ outputOf r slopes (gradientSlopes (sheetOf sizes codes floats limits) (lent goals) (lent history) (lent joints)) ⌝ }
+    ensures slopes { λ r. ⌜ now (slopes .exit) ≡ outputOf r slopes (slopesIn rule (sheetOf sizes codes floats limits) (lent goals) (lent history) (lent joints)) ⌝ }
 {
     let number = slopes_number(
         sizes,
@@ -263,56 +200,8 @@ pub(crate) fn gradient(
     }
     let mut x = [0.0; 16];
     let mut d = [0.0; 16];
-    let v = gradient_on(
-        sizes,
-        codes,
-        floats,
-        limits,
-        goals,
-        history,
-        joints,
-        &mut x,
-        &mut d,
-    );
-    put_answers(&x, v, &d, joints.len(), scratch, value, slopes);
-    0
-}
-
-pub(crate) fn gradient_finite_diff(
-    sizes: &[u16],
-    codes: &[u16],
-    floats: &[f64],
-    limits: &[f64],
-    goals: &[f64],
-    history: &[f64],
-    joints: &[f64],
-    scratch: &mut [u8],
-    value: &mut [u8],
-    slopes: &mut [u8],
-) -> u16
-    ensures number { λ r. ⌜ r ≡ slopesNumber (sheetOf sizes codes floats limits) (lent goals) (lent history) (lent joints) (roomOf scratch) (roomOf value) (roomOf slopes) ⌝ }
-    ensures scratch { λ r. ⌜ now (scratch .exit) ≡ outputOf r scratch (lent joints) ⌝ }
-    ensures value { λ r. ⌜ now (value .exit) ≡ outputOf r value (objectiveValue (sheetOf sizes codes floats limits) (lent goals) (lent history) (lent joints)) ⌝ }
-    ensures slopes { λ r. ⌜ now (slopes .exit) ≡ outputOf r slopes (finiteDiffSlopes (sheetOf sizes codes floats limits) (lent goals) (lent history) (lent joints)) ⌝ }
-{
-    let number = slopes_number(
-        sizes,
-        codes,
-        floats,
-        limits,
-        goals,
-        history,
-        joints,
-        scratch.len(),
-        value.len(),
-        slopes.len(),
-    );
-    if number != 0 {
-        return number;
-    }
-    let mut x = [0.0; 16];
-    let mut d = [0.0; 16];
-    let v = finite_diff_on(
+    let v = slopes_on(
+        rule,
         sizes,
         codes,
         floats,

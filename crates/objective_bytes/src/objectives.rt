@@ -1,11 +1,12 @@
 // The calls on the objective, as little-endian bytes. The answer is the refusal's number, 0 where the call is accepted.
 use crate::objective_lists;
+use gradient::slopes::Rule;
 use lent_bytes::sheet_lists;
 use lent_bytes::task_lists;
 ghost use mathlib.Core.Path.{_≡_};
 ghost use Rattle.lent_bytes.specs.SheetLists.{sheetIn, blockIn, goalsIn, historyIn, roomOf};
 ghost use Rattle.arm_bytes.specs.ArmCalls.{outputOf};
-ghost use Rattle.objective_bytes.specs.ObjectiveCalls.{objectiveNumber, slopesNumber, objectiveValue, gradientSlopes, finiteDiffSlopes};
+ghost use Rattle.objective_bytes.specs.ObjectiveCalls.{objectiveNumber, slopesNumber, objectiveValue, slopesIn, gradientSlopes, finiteDiffSlopes};
 
 pub fn objective(
     sizes: &[u8],
@@ -48,7 +49,9 @@ pub fn objective(
     ) as u32
 }
 
-pub fn gradient(
+// Value and slopes by either rule.
+fn slopes_by(
+    rule: Rule,
     sizes: &[u8],
     codes: &[u8],
     floats: &[u8],
@@ -63,7 +66,7 @@ pub fn gradient(
     ensures number { λ r. ⌜ r ≡ slopesNumber (sheetIn sizes codes floats limits) (goalsIn goals) (historyIn history) (blockIn joints) (roomOf scratch) (roomOf value) (roomOf slopes) ⌝ }
     ensures scratch { λ r. ⌜ now (scratch .exit) ≡ outputOf r scratch (blockIn joints) ⌝ }
     ensures value { λ r. ⌜ now (value .exit) ≡ outputOf r value (objectiveValue (sheetIn sizes codes floats limits) (goalsIn goals) (historyIn history) (blockIn joints)) ⌝ }
-    ensures slopes { λ r. ⌜ now (slopes .exit) ≡ outputOf r slopes (gradientSlopes (sheetIn sizes codes floats limits) (goalsIn goals) (historyIn history) (blockIn joints)) ⌝ }
+    ensures slopes { λ r. ⌜ now (slopes .exit) ≡ outputOf r slopes (slopesIn rule (sheetIn sizes codes floats limits) (goalsIn goals) (historyIn history) (blockIn joints)) ⌝ }
 {
     let mut s = [0u16; 5];
     let mut c = [0u16; 64];
@@ -82,6 +85,7 @@ pub fn gradient(
     let nh = t.history;
     let nx = t.joints;
     objective_lists::gradient(
+        rule,
         &s[..ns],
         &c[..nc],
         &f[..nf],
@@ -93,6 +97,38 @@ pub fn gradient(
         value,
         slopes,
     ) as u32
+}
+
+pub fn gradient(
+    sizes: &[u8],
+    codes: &[u8],
+    floats: &[u8],
+    limits: &[u8],
+    goals: &[u8],
+    history: &[u8],
+    joints: &[u8],
+    scratch: &mut [u8],
+    value: &mut [u8],
+    slopes: &mut [u8],
+) -> u32
+    ensures number { λ r. ⌜ r ≡ slopesNumber (sheetIn sizes codes floats limits) (goalsIn goals) (historyIn history) (blockIn joints) (roomOf scratch) (roomOf value) (roomOf slopes) ⌝ }
+    ensures scratch { λ r. ⌜ now (scratch .exit) ≡ outputOf r scratch (blockIn joints) ⌝ }
+    ensures value { λ r. ⌜ now (value .exit) ≡ outputOf r value (objectiveValue (sheetIn sizes codes floats limits) (goalsIn goals) (historyIn history) (blockIn joints)) ⌝ }
+    ensures slopes { λ r. ⌜ now (slopes .exit) ≡ outputOf r slopes (gradientSlopes (sheetIn sizes codes floats limits) (goalsIn goals) (historyIn history) (blockIn joints)) ⌝ }
+{
+    slopes_by(
+        Rule::EachLoss,
+        sizes,
+        codes,
+        floats,
+        limits,
+        goals,
+        history,
+        joints,
+        scratch,
+        value,
+        slopes,
+    )
 }
 
 pub fn gradient_finite_diff(
@@ -112,32 +148,17 @@ pub fn gradient_finite_diff(
     ensures value { λ r. ⌜ now (value .exit) ≡ outputOf r value (objectiveValue (sheetIn sizes codes floats limits) (goalsIn goals) (historyIn history) (blockIn joints)) ⌝ }
     ensures slopes { λ r. ⌜ now (slopes .exit) ≡ outputOf r slopes (finiteDiffSlopes (sheetIn sizes codes floats limits) (goalsIn goals) (historyIn history) (blockIn joints)) ⌝ }
 {
-    let mut s = [0u16; 5];
-    let mut c = [0u16; 64];
-    let mut f = [0.0; 448];
-    let mut l = [0.0; 32];
-    let mut g = [0.0; 52];
-    let mut h = [0.0; 64];
-    let mut x = [0.0; 16];
-    let n = sheet_lists::decode(sizes, codes, floats, limits, &mut s, &mut c, &mut f, &mut l);
-    let ns = n.sizes;
-    let nc = n.codes;
-    let nf = n.floats;
-    let nl = n.limits;
-    let t = task_lists::decode(goals, history, joints, &mut g, &mut h, &mut x);
-    let ng = t.goals;
-    let nh = t.history;
-    let nx = t.joints;
-    objective_lists::gradient_finite_diff(
-        &s[..ns],
-        &c[..nc],
-        &f[..nf],
-        &l[..nl],
-        &g[..ng],
-        &h[..nh],
-        &x[..nx],
+    slopes_by(
+        Rule::WeightedSum,
+        sizes,
+        codes,
+        floats,
+        limits,
+        goals,
+        history,
+        joints,
         scratch,
         value,
         slopes,
-    ) as u32
+    )
 }

@@ -3,49 +3,45 @@ use mathlib.Core.Path.{_≡_, refl, sym, _∙_}
 use mathlib.Core.List.{List}
 use Prim.Native.Nat.{ℕ, zero, suc, _+_, _*_, _≤_, _<_}
 use native.Mathlib.Omega.{arith}
+use denote.Ref.{RefT, now}
 use lib.Ieee.{Float}
 use lib.ListN.{length, getD}
+use Rattle.lists.specs.Splice.{splice}
 use Rattle.sheet.specs.Chain.{chainStart, chain-start-next, joint-le, joints}
+use Rattle.task.specs.Task.{taskLength, LentList, lent}
 use Rattle.self_collision.specs.Pairs.{Paired, chainLength}
 use Rattle.refusals.specs.Lengths.{scratchLength, slopesLength}
 use Rattle.refusals.specs.Lowest.{firstOf, first-none}
-use Rattle.refusals.specs.Refusal.{chainsOf, linksOf, chainJoints, shapeRefusal, loadRefusal, blockRefusal, roomRefusal}
-use Rattle.refusals.specs.Passed.{Shape, shape-passed, load-first, load-passed, block-passed, room-passed}
-use Rattle.objective_master.specs.Losses.{Given, given}
+use Rattle.refusals.specs.Refusal.{linksOf, chainJoints, shapeRefusal, loadRefusal, blockRefusal, roomRefusal}
+use Rattle.refusals.specs.Passed.{Shape, shape-passed, load-first, block-passed, room-passed}
 use Rattle.objective_master.specs.Call.{TwoJoints}
 use Rattle.gradient.specs.Ready.{Ready}
-use Rattle.calls.specs.Arms.{Accepted, arms-passed, sheet-of}
+use Rattle.calls.specs.Arms.{Accepted, ifTaken, arms-passed, sheet-of}
 
--- an accepted sheet with its floats gs, limits, goals and history, and the weights ws: all but the joints
-pub record Aimed (ws : List Float) (g : Given) (gs : List Float) : Type 0 where
-  pub arms : Accepted (g .sizes) (g .codes) gs
-  pub paired : Paired (g .sizes) (g .codes)
-  pub two : TwoJoints (g .sizes) (g .codes)
-  pub pairs : 2 * joints (g .codes) ≤ length (g .limits)
-  pub each : 13 * length (g .sizes) ≤ length (g .goals)
-  pub now₀ : joints (g .codes) ≤ length (g .xopt)
-  pub now₁ : joints (g .codes) ≤ length (g .«prev_state»)
-  pub now₂ : joints (g .codes) ≤ length (g .«prev_state2»)
-  pub eight : length ws ≡ 8
+-- an accepted sheet with its floats gs, and the list with its weights, limits, goals and history: all but the joints
+pub record Aimed (ns cs : List ℕ) (task gs : List Float) : Type 0 where
+  pub arms : Accepted ns cs gs
+  pub paired : Paired ns cs
+  pub two : TwoJoints ns cs
+  pub whole : length task ≡ taskLength
 
 -- a gradient of joints x with a scratch list and a list of slopes, of so many floats: 7, then 9
 unfoldable pub slopesRefusal : List ℕ → List Float → ℕ → ℕ → ℕ
 slopesRefusal cs x scratch slopes = firstOf (blockRefusal cs x) (firstOf (roomRefusal (scratchLength cs) scratch) (roomRefusal (slopesLength cs) slopes))
 
+-- a list that a call with refusal number n is lent, at exit: ys in its front, or as it was where the call is refused
+abbrev pub FrontIfTaken : {A : Type 0} → ℕ → LentList A (RefT (List A)) → List A → Type 0
+FrontIfTaken n xs ys = now (xs .exit) ≡ ifTaken n (lent xs) (splice (lent xs) 0 ys)
+
 -- ---- laws: what an accepted call knows
-pub ready-of : (ws : List Float) (g : Given) (gs x : List Float) → Aimed ws g gs → blockRefusal (g .codes) x ≡ 0 → Ready g gs x
-ready-of ws g gs x a e =
-    let n : length x ≡ joints (g .codes) = block-passed (g .codes) x e in
+pub ready-of : (ns cs : List ℕ) (task gs x : List Float) → Aimed ns cs task gs → blockRefusal cs x ≡ 0 → Ready ns cs task gs x
+ready-of ns cs task gs x a e =
     record {
-      sheet = sheet-of (g .sizes) (g .codes) gs x (a .arms) e;
+      sheet = sheet-of ns cs gs x (a .arms) e;
       chains = a .arms .chains;
       paired = a .paired;
       two = a .two;
-      pairs = omega (arith, n, a .pairs);
-      each = a .each;
-      now₀ = omega (arith, n, a .now₀);
-      now₁ = omega (arith, n, a .now₁);
-      now₂ = omega (arith, n, a .now₂);
+      whole = a .whole;
     }
 
 pub slopes-passed : (cs : List ℕ) (x : List Float) (scratch slopes : ℕ) → slopesRefusal cs x scratch slopes ≡ 0
@@ -77,23 +73,16 @@ shape-paired sizes cs floats s = record { counted = record { whole = s .whole; f
 pub shape-two : (sizes cs : List ℕ) (floats : ℕ) → Shape sizes cs floats → TwoJoints (linksOf sizes) cs
 shape-two sizes cs floats s c h = omega (arith, lengths-are (linksOf sizes) cs c, s .two c (omega (arith, s .sized .long)))
 
-module _ (ws : List Float) (sizes cs : List ℕ) (gs limits goals xopt prev prev2 : List Float) (eight : length ws ≡ 8) (each : 13 * chainsOf sizes ≤ length goals)
-    (now₀ : joints cs ≤ length xopt) (now₁ : joints cs ≤ length prev) (now₂ : joints cs ≤ length prev2) where
-  pub shape-aimed : shapeRefusal sizes cs (length gs) ≡ 0 → 2 * joints cs ≤ length limits → Aimed ws (given (linksOf sizes) cs limits goals xopt prev prev2) gs
-  shape-aimed e pairs =
+module _ (sizes cs : List ℕ) (task gs : List Float) (whole : length task ≡ taskLength) where
+  pub shape-aimed : shapeRefusal sizes cs (length gs) ≡ 0 → Aimed (linksOf sizes) cs task gs
+  shape-aimed e =
       let s : Shape sizes cs (length gs) = shape-passed sizes cs (length gs) e in
       record {
         arms = arms-passed sizes cs gs e;
         paired = shape-paired sizes cs (length gs) s;
         two = shape-two sizes cs (length gs) s;
-        pairs = pairs;
-        each = omega (arith, each, s .sized .long);
-        now₀ = now₀;
-        now₁ = now₁;
-        now₂ = now₂;
-        eight = eight;
+        whole = whole;
       }
 
-  pub load-aimed : loadRefusal sizes cs gs limits ≡ 0 → Aimed ws (given (linksOf sizes) cs limits goals xopt prev prev2) gs
-  load-aimed e =
-      shape-aimed (first-none _ _ (sym (load-first sizes cs gs limits) ∙ e) .0) (omega (arith, load-passed sizes cs gs limits e .1))
+  pub load-aimed : (limits : List Float) → loadRefusal sizes cs gs limits ≡ 0 → Aimed (linksOf sizes) cs task gs
+  load-aimed limits e = shape-aimed (first-none _ _ (sym (load-first sizes cs gs limits) ∙ e) .0)

@@ -1,4 +1,3 @@
 // What the objective and its gradients answer on lists that are lent, once the arms are known to be good.
-pub mod finite_diff;
 pub mod slopes;
 pub mod value;

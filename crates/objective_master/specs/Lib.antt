@@ -4,5 +4,6 @@ pub mod Losses
 pub mod Standing
 pub mod Every
 pub mod Untouched
+pub mod Kinds
 pub mod Count
 pub mod Call

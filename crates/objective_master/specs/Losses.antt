@@ -16,6 +16,7 @@ use Rattle.geometry.specs.Quaternion.{inverseOf, productOf, rotateOf, scaledAxi
 use Rattle.lists.specs.Runs.{runs}
 use Rattle.lists.specs.Listed.{listed}
 use Rattle.sheet.specs.Chain.{total, chainStart, chain-start-next, chain-start-total, jointOf, joint-mono, joint-last, joints}
+use Rattle.task.specs.Task.{taskLength, Given, givenOf}
 use Rattle.spacetime.specs.Floats.{vecAt, quatAt}
 use Rattle.spacetime.specs.Frames.{endOf, Chains}
 use Rattle.manipulability.specs.View.{View}
@@ -23,20 +24,6 @@ use Rattle.manipulability.specs.Jacobian.{manipulabilityOf}
 use Rattle.groove.specs.Loss.{matchEEPosiDoF, matchEERotaDoF, eachJointLimits, minimizeVelocity, minimizeAcceleration, minimizeJerk, maximizeManipulability, velocityOf, accelerationOf, jerkOf, noNumber}
 use Rattle.self_collision.specs.Pairs.{pair, chainLength, chainLengths, pairLoss, pairLosses, Paired, lengths-count}
 use Rattle.objective_master.specs.Objective.{Objective, MatchEEPosiDoF, MatchEERotaDoF, EachJointLimits, MinimizeVelocity, MinimizeAcceleration, MinimizeJerk, MaximizeManipulability, SelfCollision, goalObjectives, motionObjectives, pairObjective, objectives, sections}
-
--- what the objectives look at beside poses and joints: links per chain, codes, limits, goals, and the three last joint blocks of the history
-pub record Given : Type 0 where
-  pub sizes : List ℕ
-  pub codes : List ℕ
-  pub limits : List Float
-  pub goals : List Float
-  pub xopt : List Float
-  pub «prev_state» : List Float
-  pub «prev_state2» : List Float
-
-abbrev pub given : List ℕ → List ℕ → List Float → List Float → List Float → List Float → List Float → Given
-given ns cs limits goals xopt prev prev2 =
-    record { sizes = ns; codes = cs; limits = limits; goals = goals; xopt = xopt; «prev_state» = prev; «prev_state2» = prev2 }
 
 -- component a of a vector: x, y, z for 0, 1, 2
 unfoldable pub componentOf : Vec3 → ℕ → Float
@@ -117,17 +104,13 @@ changeLosses x xopt prev prev2 = minimizeVelocity (velocityOf x xopt) ∷ minimi
 unfoldable pub motionLosses : (ℕ → Pose) → List ℕ → List ℕ → List Float → List Float → List Float → List Float → List Float
 motionLosses P ns cs x xopt prev prev2 = changeLosses x xopt prev prev2 ++ (maximizeManipulability (manipulabilityOf P ns cs) ∷ [])
 
--- what is lent for it: an accepted sheet, its limits, goals and history, joints, and a view of the poses
-pub record Lent (g : Given) (x base tail : List Float) (from to : ℕ) : Type 0 where
-  pub paired : Paired (g .sizes) (g .codes)
-  pub chains : Chains (g .sizes)
-  pub view : View base tail from to (length (g .codes))
-  pub values : length x ≡ joints (g .codes)
-  pub pairs : 2 * length x ≤ length (g .limits)
-  pub each : 13 * length (g .sizes) ≤ length (g .goals)
-  pub now₀ : length x ≤ length (g .xopt)
-  pub now₁ : length x ≤ length (g .«prev_state»)
-  pub now₂ : length x ≤ length (g .«prev_state2»)
+-- what is lent for it: an accepted sheet, the list with its limits, goals and history, joints, and a view of the poses
+pub record Lent (ns cs : List ℕ) (task x base tail : List Float) (from to : ℕ) : Type 0 where
+  pub paired : Paired ns cs
+  pub chains : Chains ns
+  pub view : View base tail from to (length cs)
+  pub values : length x ≡ joints cs
+  pub whole : length task ≡ taskLength
 
 -- ---- laws
 pub losses-many : (g : Given) (P : ℕ → Pose) (x : List Float) → length (lossesOf g P x) ≡ length (objectivesOf g)

@@ -12,12 +12,13 @@ use borrow.Author.Tests.{lt-leb}
 use Rattle.geometry.specs.declared.pose.Pose.{Pose}
 use Rattle.lists.specs.Splice.{splice, length-splice, splice-splice, getD-splice-after}
 use Rattle.lists.specs.Runs.{runs, length-runs}
+use Rattle.task.specs.Task.{Given}
 use Rattle.sheet.specs.Chain.{total, chainStart, joints}
 use Rattle.groove.specs.Loss.{noNumber}
 use Rattle.self_collision.specs.Pairs.{Pair, pair, allPairs, chainLengths, pairLoss, pairLosses, lengths-count}
 use Rattle.self_collision.specs.Pairs as pairs
 use Rattle.objective_master.specs.Objective.{Objective, MatchEEPosiDoF, MatchEERotaDoF, EachJointLimits, MinimizeVelocity, MinimizeAcceleration, MinimizeJerk, MaximizeManipulability, SelfCollision, goalObjectives, pairObjective, count, at-goal, at-limit, at-pair}
-use Rattle.objective_master.specs.Losses.{Given, lossOf, lossesOf, objectivesOf, offLosses, turnLosses, poseLosses, goalLosses, limitLoss, limitLosses, motionLosses, goal-length, limit-length, motion-length, lengths-total, losses-sections}
+use Rattle.objective_master.specs.Losses.{lossOf, lossesOf, objectivesOf, offLosses, turnLosses, poseLosses, goalLosses, limitLoss, limitLosses, motionLosses, goal-length, limit-length, motion-length, lengths-total, losses-sections}
 
 -- link l was walked again
 unfoldable pub walkedAgain : ℕ → ℕ → ℕ → Bool

@@ -9,6 +9,7 @@ use lib.Ieee.{Float, nan}
 use lib.ListN.{length, getD, length-map, List·getD-eq-default}
 use borrow.Author.Tests.{lt-ltb, le-leb, lt-leb, leb-false, eq-eqb}
 use Rattle.geometry.specs.declared.pose.Pose.{Pose}
+use Rattle.task.specs.Task.{Given}
 use Rattle.sheet.specs.Chain.{total, chainStart, below-or}
 use Rattle.spacetime.specs.Frames.{endOf, Chains, chain-within}
 use Rattle.manipulability.specs.Jacobian.{manipulability-ext}
@@ -16,7 +17,7 @@ use Rattle.groove.specs.Loss.{noNumber, maximizeManipulability, eachJointLimits
 use Rattle.self_collision.specs.Pairs.{pair, chainLengths, pairLoss, Paired, lengths-count, lengths-at, arm-fits}
 use Rattle.self_collision.specs.Skip.{skipped}
 use Rattle.objective_master.specs.Objective.{Objective, MinimizeVelocity, objectives}
-use Rattle.objective_master.specs.Losses.{Given, offLoss, turnLoss, limitLoss, lossOf, lossesOf, objectivesOf}
+use Rattle.objective_master.specs.Losses.{offLoss, turnLoss, limitLoss, lossOf, lossesOf, objectivesOf}
 use Rattle.objective_master.specs.Standing.{walkedAgain, endAgain, isRaised, touched, Standing, map-at}
 use Rattle.objective_master.specs.Every.{objectives-each}
 

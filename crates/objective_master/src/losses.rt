@@ -9,18 +9,27 @@ use manipulability::view;
 use self_collision::pairs;
 use spacetime::floats;
 use standins::cut;
+use task::parts;
 ghost use mathlib.Core.Path.{_≡_};
 ghost use Prim.Native.Nat.{_+_, _*_, _≤_, _<_};
 ghost use lib.ListN.{length};
 ghost use Rattle.lists.specs.Splice.{splice};
 ghost use Rattle.lists.specs.Runs.{runs};
 ghost use Rattle.sheet.specs.Chain.{total};
+ghost use Rattle.task.specs.Task.{taskLength, xoptOf, prevStateOf, prevState2Of, givenOf, givenIn};
 ghost use Rattle.spacetime.specs.Floats.{flatVec};
 ghost use Rattle.spacetime.specs.Frames.{Chains};
 ghost use Rattle.manipulability.specs.View.{viewOf, View};
 ghost use Rattle.manipulability.specs.Jacobian.{Counted};
-ghost use Rattle.objective_master.specs.Losses.{toleranceAt, offGoal, turnFromGoal, offLosses, turnLosses, poseLosses, goalLosses, limitLosses, changeLosses, motionLosses, given, lossesOf, Lent};
+ghost use Rattle.objective_master.specs.Losses.{toleranceAt, offGoal, turnFromGoal, offLosses, turnLosses, poseLosses, goalLosses, limitLosses, changeLosses, motionLosses, lossesOf, Lent};
 ghost use Rattle.objective_master.specs.Standing.{walkedAgain, endAgain, isRaised, Kept, Stands, Standing};
+
+// What was walked again: the links from..to, with `joint` raised. All links are new in a first walk, and so are all joints (65535).
+pub struct Walked {
+    pub from: usize,
+    pub to: usize,
+    pub joint: usize,
+}
 
 fn tolerance(goals: &[f64], c: usize, a: usize) -> f64
     requires { ⌜ 13 * c + 7 + a < length (now goals) ⌝ }
@@ -181,19 +190,14 @@ fn put_limits(limits: &[f64], x: &[f64], joint: usize, at: usize, out: &mut [f64
 }
 
 // Velocity, acceleration and jerk.
-fn put_changes(
-    x: &[f64],
-    xopt: &[f64],
-    prev_state: &[f64],
-    prev_state2: &[f64],
-    at: usize,
-    out: &mut [f64],
-)
-    requires { ⌜ (length (now x) ≤ length (now xopt)) × (length (now x) ≤ length (now «prev_state»)) × (length (now x) ≤ length (now «prev_state2»))
-        × (at + 3 ≤ length (now out)) ⌝ }
-    ensures { λ _. ⌜ now (out .exit) ≡ splice (now (out .entry)) at
-        (changeLosses (now (x .entry)) (now (xopt .entry)) (now («prev_state» .entry)) (now («prev_state2» .entry))) ⌝ }
+fn put_changes(task: &[f64], x: &[f64], at: usize, out: &mut [f64])
+    requires { ⌜ (length (now task) ≡ taskLength) × (length (now x) ≤ 16) × (at + 3 ≤ length (now out)) ⌝ }
+    ensures { λ _. ⌜ now (out .exit) ≡ splice (now (out .entry)) at (changeLosses (now (x .entry))
+        (xoptOf (length (now (x .entry))) (now (task .entry))) (prevStateOf (length (now (x .entry))) (now (task .entry))) (prevState2Of (length (now (x .entry))) (now (task .entry)))) ⌝ }
 {
+    let xopt = parts::xopt(task, x.len());
+    let prev_state = parts::prev_state(task, x.len());
+    let prev_state2 = parts::prev_state2(task, x.len());
     let v = objective::joint_changes(x, xopt, prev_state, prev_state2);
     let three = Vec3 {
         x: objective::minimize_velocity(v.velocity),
@@ -207,75 +211,60 @@ fn put_changes(
 fn put_motion(
     sizes: &[u16],
     codes: &[u16],
-    xopt: &[f64],
-    prev_state: &[f64],
-    prev_state2: &[f64],
+    task: &[f64],
     x: &[f64],
     base: &[f64],
     tail: &[f64],
-    from: usize,
-    to: usize,
+    walked: Walked,
     at: usize,
     out: &mut [f64],
 )
-    requires { ⌜ (length (now x) ≤ length (now xopt)) × (length (now x) ≤ length (now «prev_state»)) × (length (now x) ≤ length (now «prev_state2»))
-        × (at + 4 ≤ length (now out)) ⌝ }
-    requires { ⌜ Counted (now sizes) (now codes) × View (now base) (now tail) from to (length (now codes)) ⌝ }
+    requires { ⌜ (length (now task) ≡ taskLength) × (length (now x) ≤ 16) × (at + 4 ≤ length (now out)) ⌝ }
+    requires { ⌜ Counted (now sizes) (now codes) × View (now base) (now tail) (walked .from) (walked .to) (length (now codes)) ⌝ }
     ensures { λ _. ⌜ now (out .exit) ≡ splice (now (out .entry)) at
-        (motionLosses (viewOf (now (base .entry)) (now (tail .entry)) from to) (now (sizes .entry)) (now (codes .entry))
-        (now (x .entry)) (now (xopt .entry)) (now («prev_state» .entry)) (now («prev_state2» .entry))) ⌝ }
+        (motionLosses (viewOf (now (base .entry)) (now (tail .entry)) (walked .from) (walked .to)) (now (sizes .entry)) (now (codes .entry)) (now (x .entry))
+        (xoptOf (length (now (x .entry))) (now (task .entry))) (prevStateOf (length (now (x .entry))) (now (task .entry))) (prevState2Of (length (now (x .entry))) (now (task .entry)))) ⌝ }
 {
-    let m = robot::get_manipulability_immutable(sizes, codes, base, tail, from, to);
-    put_changes(x, xopt, prev_state, prev_state2, at, out);
+    let m = robot::get_manipulability_immutable(sizes, codes, base, tail, walked.from, walked.to);
+    put_changes(task, x, at, out);
     out[at + 3] = objective::maximize_manipulability(m);
 }
 
-// The losses of all objectives, from the front of `out` on. Links from..to were walked again, and `joint` was raised (65535: all joints are new):
-// the losses of objectives that read neither stand in `out` already, and are left there.
+// The losses of all objectives, from the front of `out` on: those of objectives that read no link walked again and no joint raised
+// stand in `out` already, and are left there.
 pub fn put_losses(
     sizes: &[u16],
     codes: &[u16],
-    limits: &[f64],
-    goals: &[f64],
-    xopt: &[f64],
-    prev_state: &[f64],
-    prev_state2: &[f64],
+    task: &[f64],
     x: &[f64],
     base: &[f64],
     tail: &[f64],
-    from: usize,
-    to: usize,
-    joint: usize,
+    walked: Walked,
     out: &mut [f64],
 )
-    requires { ⌜ Lent
-        (given (now sizes) (now codes) (now limits) (now goals) (now xopt) (now «prev_state») (now «prev_state2»))
-        (now x) (now base) (now tail) from to ⌝ }
-    requires { ⌜ Standing
-        (given (now sizes) (now codes) (now limits) (now goals) (now xopt) (now «prev_state») (now «prev_state2»))
-        (viewOf (now base) (now tail) from to) (now x) from to joint (now out) ⌝ }
-    ensures { λ _. ⌜ now (out .exit) ≡ splice (now (out .entry)) 0 (lossesOf
-        (given (now (sizes .entry)) (now (codes .entry)) (now (limits .entry)) (now (goals .entry)) (now (xopt .entry)) (now («prev_state» .entry)) (now («prev_state2» .entry)))
-        (viewOf (now (base .entry)) (now (tail .entry)) from to) (now (x .entry))) ⌝ }
+    requires { ⌜ Lent (now sizes) (now codes) (now task) (now x) (now base) (now tail) (walked .from) (walked .to) ⌝ }
+    requires { ⌜ Standing (givenOf (now sizes) (now codes) (now task)) (viewOf (now base) (now tail) (walked .from) (walked .to))
+        (now x) (walked .from) (walked .to) (walked .joint) (now out) ⌝ }
+    ensures { λ _. ⌜ now (out .exit) ≡ splice (now (out .entry)) 0
+        (lossesOf (givenIn sizes codes task) (viewOf (now (base .entry)) (now (tail .entry)) (walked .from) (walked .to)) (now (x .entry))) ⌝ }
 {
-    put_goals(sizes, goals, base, tail, from, to, out);
+    let goals = parts::goals(task, sizes.len());
+    put_goals(sizes, goals, base, tail, walked.from, walked.to, out);
     let n = 6 * sizes.len();
-    put_limits(limits, x, joint, n, out);
+    let limits = parts::limits(task, x.len());
+    put_limits(limits, x, walked.joint, n, out);
     let m = n + x.len();
-    put_motion(
+    put_motion(sizes, codes, task, x, base, tail, walked, m, out);
+    let no_number = objective::no_number(x);
+    pairs::put_pairs(
         sizes,
         codes,
-        xopt,
-        prev_state,
-        prev_state2,
-        x,
         base,
         tail,
-        from,
-        to,
-        m,
+        walked.from,
+        walked.to,
+        no_number,
+        m + 4,
         out,
     );
-    let no_number = objective::no_number(x);
-    pairs::put_pairs(sizes, codes, base, tail, from, to, no_number, m + 4, out);
 }

@@ -21,6 +21,7 @@ use Rattle.spacetime.specs.Walk.{Sheet, beforeOf, poseOf, valueOf, poses, frame
 use Rattle.gradient.specs.Slopes.{step}
 use Rattle.gradient.specs.Gradient.{raisedBy}
 use Rattle.one_block.specs.declared.walk.Place.{Place}
+use Rattle.one_block.specs.declared.grad.Turn.{Turn}
 use Rattle.one_block.specs.Record.{copyOf, againOf, recordOf, jointEntry, linkEntry, poseEntry, recordJoints, recordLinks, recordPoses, againAt, againBelow, entriesOf, placeAfter, placeAfterAll, placeAfterTurn, Meets, Stands}
 
 -- ---- copies
@@ -124,22 +125,22 @@ pose-first ns cs gs x frames l h e =
     ∙ ap (λ (n : ℕ). getD (flat (poseOf ns cs gs x n)) r nan) z)
 
 -- a turn of the loop over what is walked again
-module _ (ns cs : List ℕ) (gs x : List Float) (l : ℕ) (p q : Place) where
-  pub turn-is : (frames : List Float) → Stands ns cs gs x l p frames
-      → q .at ≡ p .at + againAt ns cs l → q .joint ≡ p .joint + jointsOf (getD cs l 0) → q .pose ≡ poseAt frames (7 * l) → q ≡ placeAfterTurn ns cs gs x l p
+module _ (ns cs : List ℕ) (gs x : List Float) (t : Turn) (q : Place) where
+  pub turn-is : (frames : List Float) → Stands ns cs gs x t frames
+      → q .at ≡ t .here .at + againAt ns cs (t .link) → q .joint ≡ t .here .joint + jointsOf (getD cs (t .link) 0) → q .pose ≡ poseAt frames (7 * t .link) → q ≡ placeAfterTurn ns cs gs x t
   unfolding placeAfterTurn
-  turn-is frames s a j e = rw (← a, ← j, ← (e ∙ pose-first ns cs gs x frames l (s .inside) (s .walked)))
+  turn-is frames s a j e = rw (← a, ← j, ← (e ∙ pose-first ns cs gs x frames (t .link) (s .inside) (s .walked)))
 
-  pub turn-at : q ≡ placeAfterTurn ns cs gs x l p → q .at ≡ p .at + againAt ns cs l
+  pub turn-at : q ≡ placeAfterTurn ns cs gs x t → q .at ≡ t .here .at + againAt ns cs (t .link)
   unfolding placeAfterTurn
   turn-at e = ap (λ (z : Place). z .at) e
 
-  pub turn-meets : Meets ns cs gs x l p → q ≡ placeAfterTurn ns cs gs x l p → Meets ns cs gs x (l + 1) q
+  pub turn-meets : Meets ns cs gs x (t .link) (t .here) → q ≡ placeAfterTurn ns cs gs x t → Meets ns cs gs x (t .link + 1) q
   unfolding placeAfterTurn
   turn-meets m e =
       record {
-        number = ap (λ (z : Place). z .joint) e ∙ ap (λ (n : ℕ). n + jointsOf (getD cs l 0)) (m .number) ∙ sym (joint-more cs l);
-        met = next-met ns cs gs x l (q .pose) (ap (λ (z : Place). z .pose) e);
+        number = ap (λ (z : Place). z .joint) e ∙ ap (λ (n : ℕ). n + jointsOf (getD cs (t .link) 0)) (m .number) ∙ sym (joint-more cs (t .link));
+        met = next-met ns cs gs x (t .link) (q .pose) (ap (λ (z : Place). z .pose) e);
       }
 
 -- ---- lengths

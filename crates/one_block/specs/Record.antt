@@ -3,16 +3,20 @@ use mathlib.Core.Path.{_≡_}
 use mathlib.Core.Bool.{cond}
 use mathlib.Core.List.{List, [], _∷_, _++_}
 use Prim.Native.Nat.{ℕ, zero, suc, _+_, _-_, _*_, _≤_, _<_}
+use denote.Ref.{RefT, now}
 use lib.Dec.{eqb}
 use lib.Ieee.{Float}
 use lib.ListN.{getD, length, take}
+use Rattle.lists.specs.Splice.{splice}
 use Rattle.lists.specs.Runs.{runs}
 use Rattle.sheet.specs.Chain.{endIn, jointsOf, jointOf}
+use Rattle.task.specs.Task.{LentList, lent}
 use Rattle.spacetime.specs.Floats.{flat}
 use Rattle.spacetime.specs.Walk.{startOf, afterLink, beforeOf, poseOf, framesOf}
 use Rattle.gradient.specs.Slopes.{step}
 use Rattle.gradient.specs.Gradient.{raisedBy}
 use Rattle.one_block.specs.declared.walk.Place.{Place}
+use Rattle.one_block.specs.declared.grad.Turn.{Turn}
 
 -- copy 65535 is x; copy j is x with entry j raised
 unfoldable pub copyOf : List Float → ℕ → List Float
@@ -60,6 +64,34 @@ entriesOf ns cs = length cs + againBelow ns cs (length cs)
 
 -- ---- what the functions ask and answer
 
+-- entries of the record, as each of its lists has them
+pub record Entries : Type 0 where
+  pub joints : List ℕ
+  pub links : List ℕ
+  pub poses : List Float
+
+-- link l's part of what is walked again, and all parts
+abbrev pub againEntries : List ℕ → List ℕ → List Float → List Float → ℕ → Entries
+againEntries ns cs gs x l = record { joints = againOf jointEntry ns cs l; links = againOf linkEntry ns cs l; poses = againOf (poseEntry ns cs gs x) ns cs l }
+
+abbrev pub everyAgain : List ℕ → List ℕ → List Float → List Float → Entries
+everyAgain ns cs gs x =
+    record {
+      joints = runs (againOf jointEntry ns cs) 0 (length cs);
+      links = runs (againOf linkEntry ns cs) 0 (length cs);
+      poses = runs (againOf (poseEntry ns cs gs x) ns cs) 0 (length cs);
+    }
+
+-- the record's lists, with entries e written from entry `at` on
+pub record Written (at : ℕ) (e : Entries) (joints₀ links₀ : List ℕ) (frames₀ : List Float) (joints links : List ℕ) (frames : List Float) : Type 0 where
+  pub of-joints : joints ≡ splice joints₀ at (e .joints)
+  pub of-links : links ≡ splice links₀ at (e .links)
+  pub of-frames : frames ≡ splice frames₀ (7 * at) (e .poses)
+
+-- of a function's parameters
+abbrev pub Writes : ℕ → Entries → LentList ℕ (RefT (List ℕ)) → LentList ℕ (RefT (List ℕ)) → LentList Float (RefT (List Float)) → Type 0
+Writes at e joints links frames = Written at e (lent joints) (lent links) (lent frames) (now (joints .exit)) (now (links .exit)) (now (frames .exit))
+
 -- the place after link l is walked from place p
 unfoldable pub placeAfter : List ℕ → List ℕ → List Float → List Float → ℕ → Place → Place
 placeAfter ns cs gs x l p =
@@ -70,9 +102,10 @@ unfoldable pub placeAfterAll : List ℕ → List ℕ → List Float → List Flo
 placeAfterAll ns cs gs x from zero p = p
 placeAfterAll ns cs gs x from (suc n) p = placeAfter ns cs gs x (from + n) (placeAfterAll ns cs gs x from n p)
 
--- after link l's turn in the loop over what is walked again: the pose is the first walk's
-unfoldable pub placeAfterTurn : List ℕ → List ℕ → List Float → List Float → ℕ → Place → Place
-placeAfterTurn ns cs gs x l p = record { at = p .at + againAt ns cs l; joint = p .joint + jointsOf (getD cs l 0); pose = poseOf ns cs gs x l }
+-- after a turn of the loop over what is walked again: the pose is the first walk's
+unfoldable pub placeAfterTurn : List ℕ → List ℕ → List Float → List Float → Turn → Place
+placeAfterTurn ns cs gs x t =
+    record { at = t .here .at + againAt ns cs (t .link); joint = t .here .joint + jointsOf (getD cs (t .link) 0); pose = poseOf ns cs gs x (t .link) }
 
 -- p is where the walk of x meets link l
 pub record Meets (ns cs : List ℕ) (gs x : List Float) (l : ℕ) (p : Place) : Type 0 where
@@ -85,9 +118,9 @@ pub record Room (joints links : List ℕ) (frames : List Float) (n : ℕ) : Type
   pub links-room : n ≤ length links
   pub frames-room : 7 * n ≤ length frames
 
--- p is where the loop over the links walked again stands at link l, with the first walk in front of the record
-pub record Stands (ns cs : List ℕ) (gs x : List Float) (l : ℕ) (p : Place) (frames : List Float) : Type 0 where
-  pub inside : l < length cs
-  pub meets : Meets ns cs gs x l p
-  pub next : p .at ≡ length cs + againBelow ns cs l
+-- a turn of that loop, with the first walk in front of the record
+pub record Stands (ns cs : List ℕ) (gs x : List Float) (t : Turn) (frames : List Float) : Type 0 where
+  pub inside : t .link < length cs
+  pub meets : Meets ns cs gs x (t .link) (t .here)
+  pub next : t .here .at ≡ length cs + againBelow ns cs (t .link)
   pub walked : take (7 * length cs) frames ≡ framesOf ns cs gs x

@@ -16,38 +16,38 @@ use Rattle.lists.specs.Splice.{splice, length-splice, getD-splice-in}
 use Rattle.lists.specs.Runs.{runs, runs-ext, length-runs, getD-runs}
 use Rattle.lists.specs.Listed.{listed, listed-turn}
 use Rattle.sheet.specs.Chain.{endIn, total, jointOf, joints-fixed, joints-one, joint-more, below-or, end-past}
+use Rattle.task.specs.Task.{Given, givenOf}
 use Rattle.spacetime.specs.Floats.{poseAt, flat, pose-is}
 use Rattle.spacetime.specs.Walk.{poseOf, poses, poses-length, framesOf, listPose}
 use Rattle.manipulability.specs.View.{viewOf}
 use Rattle.groove.specs.Loss.{noNumber}
 use Rattle.objective_master.specs.Objective.{Objective}
-use Rattle.objective_master.specs.Losses.{Given, lossesOf, objectivesOf, losses-many}
-use Rattle.objective_master.specs.Weights.{weightedOf}
+use Rattle.objective_master.specs.Losses.{lossesOf, objectivesOf, losses-many}
+use Rattle.objective_master.specs.Weights.{weightedBy}
+use Rattle.objective_master.specs.Kinds.{kindsOf, kinds-length}
 use Rattle.objective_master.specs.Standing.{walkedAgain, isRaised, touched, Standing}
 use Rattle.objective_master.specs.Untouched.{standing-again, losses-ext}
 use Rattle.gradient.specs.Slopes.{step, slopeBetween}
-use Rattle.gradient.specs.Gradient.{raisedBy, posesOf, lossesAt, gradientAt}
+use Rattle.gradient.specs.Gradient.{raisedBy, posesOf, lossesAt, gradientAt, slopeAt, slopesOf, gradientOf}
 use Rattle.gradient.specs.Ready.{Ready}
-use Rattle.gradient.specs.Made.{slope-is}
+use Rattle.gradient.specs.Made.{weighted-slopes}
 use Rattle.one_block.specs.Record.{copyOf}
 use Rattle.one_block.specs.Laws.{copy-joint, pose-first, pose-outside, joint-small, joint-in-block}
 use Rattle.one_block.specs.Numbers.{numbers-raised}
 
 -- the weighted slope from the losses fs to those of poses P and joints y
-unfoldable pub slopeTo : List Float → Given → List Float → (ℕ → Pose) → List Float → Float
-slopeTo ws g fs P y = weightedOf ws (objectivesOf g) (listed (slopeBetween fs (lossesOf g P y)) (length (objectivesOf g)))
+unfoldable pub slopeTo : Given → List Float → (ℕ → Pose) → List Float → Float
+slopeTo g fs P y = let ks : List ℕ = kindsOf (g .sizes) (g .codes) in weightedBy (g .weights) ks (listed (slopeBetween fs (lossesOf g P y)) (length ks))
 
 -- link l's turn in the list of slopes: its joint's entry is set, if it has a joint
-unfoldable pub slopesAfter : List Float → Given → List Float → List Float → ℕ → List Float → List Float
-slopesAfter ws g gs x l slopes = cond (eqb (getD (g .codes) l 0) 0) slopes (set slopes (jointOf (g .codes) l) (gradientAt ws g gs x (jointOf (g .codes) l)))
+unfoldable pub slopesAfter : Given → List Float → List Float → ℕ → List Float → List Float
+slopesAfter g gs x l slopes = cond (eqb (getD (g .codes) l 0) 0) slopes (set slopes (jointOf (g .codes) l) (gradientAt g gs x (jointOf (g .codes) l)))
 
--- fs has the n losses of block x in front, hs has room for as many, and there is room for the slopes
-pub record Known (ws : List Float) (g : Given) (gs x : List Float) (n : ℕ) (fs hs slopes : List Float) : Type 0 where
-  pub weights : length ws ≡ 8
-  pub many : n ≡ length (objectivesOf g)
-  pub losses : take n fs ≡ lossesAt g gs x
-  pub first-room : n ≤ length fs
-  pub raised-room : n ≤ length hs
+-- the objectives' kinds ks, the losses of block x in front of fs, and room for the slopes
+pub record Known (ns cs : List ℕ) (task gs x : List Float) (ks : List ℕ) (fs slopes : List Float) : Type 0 where
+  pub kinds : ks ≡ kindsOf ns cs
+  pub losses : take (length ks) fs ≡ lossesAt (givenOf ns cs task) gs x
+  pub losses-room : length ks ≤ length fs
   pub slopes-room : length x ≤ length slopes
 
 -- ---- laws: views
@@ -104,66 +104,75 @@ standing-front g P y from to joint n fs hs cur s e h k made =
     }
 
 -- ---- the slope as code makes it
-pub slope-made : (ws : List Float) (g : Given) (P : ℕ → Pose) (y fs rest hs : List Float) (n : ℕ) → n ≡ length (objectivesOf g) → hs ≡ splice rest 0 (lossesOf g P y)
-    → weightedOf ws (objectivesOf g) (listed (slopeBetween fs hs) n) ≡ slopeTo ws g fs P y
+pub slope-made : (g : Given) (P : ℕ → Pose) (y fs rest hs ws : List Float) (ks : List ℕ) → ws ≡ g .weights → ks ≡ kindsOf (g .sizes) (g .codes) → hs ≡ splice rest 0 (lossesOf g P y)
+    → weightedBy ws ks (listed (slopeBetween fs hs) (length ks)) ≡ slopeTo g fs P y
 unfolding slopeTo listed slopeBetween
-slope-made ws g P y fs rest hs n e made =
+slope-made g P y fs rest hs ws ks weights kinds made =
     let ls : List Float = lossesOf g P y in
     let len : length ls ≡ length (objectivesOf g) = losses-many g P y in
-    ap (weightedOf ws (objectivesOf g))
-    (runs-ext (λ i. slopeBetween fs hs i ∷ []) (λ i. slopeBetween fs ls i ∷ []) 0 n
+    let n : length ks ≡ length (objectivesOf g) = ap length kinds ∙ kinds-length (g .sizes) (g .codes) in
+    ap (weightedBy ws ks)
+    (runs-ext (λ i. slopeBetween fs hs i ∷ []) (λ i. slopeBetween fs ls i ∷ []) 0 (length ks)
     (λ i h.
     let z : 0 + i ≡ i = omega arith in
-    rw z (ap (λ (v : Float). ((neg (getD fs i nan) ⊕ v) ⊘ step) ∷ []) (ap (λ (c : List Float). getD c i nan) made ∙ front-at rest ls i (omega arith))))
-    ∙ ap (λ (m : ℕ). listed (slopeBetween fs ls) m) e)
+    rw z (ap (λ (v : Float). ((neg (getD fs i nan) ⊕ v) ⊘ step) ∷ []) (ap (λ (c : List Float). getD c i nan) made ∙ front-at rest ls i (omega arith)))))
+    ∙ ap (λ (k : List ℕ). weightedBy ws k (listed (slopeBetween fs ls) (length k))) kinds
+    ∙ ap (λ (w : List Float). weightedBy w (kindsOf (g .sizes) (g .codes)) (listed (slopeBetween fs ls) (length (kindsOf (g .sizes) (g .codes))))) weights
 
 -- ---- a turn in the list of slopes
-pub slopes-turn : (ws : List Float) (g : Given) (gs x xs cur new : List Float) (l : ℕ) → cur ≡ splice xs 0 (listed (gradientAt ws g gs x) (jointOf (g .codes) l)) → length cur ≡ length xs
-    → jointOf (g .codes) (l + 1) ≤ length xs → new ≡ slopesAfter ws g gs x l cur → new ≡ splice xs 0 (listed (gradientAt ws g gs x) (jointOf (g .codes) (l + 1)))
-unfolding slopesAfter
-slopes-turn ws g gs x xs cur new l e same room made = made ∙ go (eqb (getD (g .codes) l 0) 0) refl
-  where
-    go : (t : Bool) → eqb (getD (g .codes) l 0) 0 ≡ t
-        → cond t cur (set cur (jointOf (g .codes) l) (gradientAt ws g gs x (jointOf (g .codes) l))) ≡ splice xs 0 (listed (gradientAt ws g gs x) (jointOf (g .codes) (l + 1)))
-    go true q =
-        let z : jointOf (g .codes) (l + 1) ≡ jointOf (g .codes) l = omega (arith, joint-more (g .codes) l, joints-fixed (getD (g .codes) l 0) (eqb-true (getD (g .codes) l 0) 0 q)) in
-        e ∙ ap (λ (m : ℕ). splice xs 0 (listed (gradientAt ws g gs x) m)) (sym z)
-    go false q =
-        let z : jointOf (g .codes) (l + 1) ≡ jointOf (g .codes) l + 1 = omega (arith, joint-more (g .codes) l, joints-one (getD (g .codes) l 0) (eqb-false (getD (g .codes) l 0) 0 q)) in
-        listed-turn (gradientAt ws g gs x) xs cur (jointOf (g .codes) l) (gradientAt ws g gs x (jointOf (g .codes) l)) (omega arith) same e refl
-        ∙ ap (λ (m : ℕ). splice xs 0 (listed (gradientAt ws g gs x) m)) (sym z)
+module _ (g : Given) (gs x : List Float) where
+  abbrev cs₀ : List ℕ
+  cs₀ = g .codes
 
-module _ (ws : List Float) (g : Given) (gs x : List Float) (l : ℕ) (slopes : List Float) where
-  pub slopes-fixed : getD (g .codes) l 0 ≡ 0 → slopes ≡ slopesAfter ws g gs x l slopes
-  unfolding slopesAfter
-  slopes-fixed z = rw (eq-eqb (getD (g .codes) l 0) 0 z)
+  abbrev slopes₀ : ℕ → List Float
+  slopes₀ n = listed (gradientAt g gs x) n
 
-  pub slopes-joint : (getD (g .codes) l 0 ≡ 0 → ⊥) → set slopes (jointOf (g .codes) l) (gradientAt ws g gs x (jointOf (g .codes) l)) ≡ slopesAfter ws g gs x l slopes
+  pub slopes-turn : (xs cur new : List Float) (l : ℕ) → cur ≡ splice xs 0 (slopes₀ (jointOf cs₀ l)) → length cur ≡ length xs → jointOf cs₀ (l + 1) ≤ length xs
+      → new ≡ slopesAfter g gs x l cur → new ≡ splice xs 0 (slopes₀ (jointOf cs₀ (l + 1)))
   unfolding slopesAfter
-  slopes-joint z = rw (ne-eqb (getD (g .codes) l 0) 0 z)
+  slopes-turn xs cur new l e same room made = made ∙ go (eqb (getD cs₀ l 0) 0) refl
+    where
+      go : (t : Bool) → eqb (getD cs₀ l 0) 0 ≡ t → cond t cur (set cur (jointOf cs₀ l) (gradientAt g gs x (jointOf cs₀ l))) ≡ splice xs 0 (slopes₀ (jointOf cs₀ (l + 1)))
+      go true q =
+          let z : jointOf cs₀ (l + 1) ≡ jointOf cs₀ l = omega (arith, joint-more cs₀ l, joints-fixed (getD cs₀ l 0) (eqb-true (getD cs₀ l 0) 0 q)) in
+          e ∙ ap (λ (m : ℕ). splice xs 0 (slopes₀ m)) (sym z)
+      go false q =
+          let z : jointOf cs₀ (l + 1) ≡ jointOf cs₀ l + 1 = omega (arith, joint-more cs₀ l, joints-one (getD cs₀ l 0) (eqb-false (getD cs₀ l 0) 0 q)) in
+          listed-turn (gradientAt g gs x) xs cur (jointOf cs₀ l) (gradientAt g gs x (jointOf cs₀ l)) (omega arith) same e refl
+          ∙ ap (λ (m : ℕ). splice xs 0 (slopes₀ m)) (sym z)
+
+  pub slopes-fixed : (l : ℕ) (slopes : List Float) → getD cs₀ l 0 ≡ 0 → slopes ≡ slopesAfter g gs x l slopes
+  unfolding slopesAfter
+  slopes-fixed l slopes z = rw (eq-eqb (getD cs₀ l 0) 0 z)
+
+  pub slopes-joint : (l : ℕ) (slopes : List Float) → (getD cs₀ l 0 ≡ 0 → ⊥) → set slopes (jointOf cs₀ l) (gradientAt g gs x (jointOf cs₀ l)) ≡ slopesAfter g gs x l slopes
+  unfolding slopesAfter
+  slopes-joint l slopes z = rw (ne-eqb (getD cs₀ l 0) 0 z)
+
+  -- all of them
+  pub slopes-all : slopes₀ (length x) ≡ gradientOf g gs x
+  unfolding slopesOf slopeAt
+  slopes-all = refl
 
 -- the record at a joint's turn: in front the first walk, from `a` on the links k.. of the copy
-module _ (g : Given) (gs x : List Float) (ready : Ready g gs x) (k : ℕ) (inside : k < length (g .codes)) (turns : getD (g .codes) k 0 ≡ 0 → ⊥)
-    (frames record₀ : List Float) (a : ℕ) (first : take (7 * length (g .codes)) frames ≡ framesOf (g .sizes) (g .codes) gs x)
-    (again : frames ≡ splice record₀ a (runs (poses (g .sizes) (g .codes) gs (copyOf x (jointOf (g .codes) k))) k (endIn (g .sizes) k - k)))
-    (room : a + 7 * (endIn (g .sizes) k - k) ≤ length record₀) where
-  abbrev ns : List ℕ
-  ns = g .sizes
-
-  abbrev cs : List ℕ
-  cs = g .codes
+module _ (ns cs : List ℕ) (task gs x : List Float) (ready : Ready ns cs task gs x) (k : ℕ) (inside : k < length cs) (turns : getD cs k 0 ≡ 0 → ⊥)
+    (frames record₀ : List Float) (a : ℕ) (first : take (7 * length cs) frames ≡ framesOf ns cs gs x)
+    (again : frames ≡ splice record₀ a (runs (poses ns cs gs (copyOf x (jointOf cs k))) k (endIn ns k - k)))
+    (room : a + 7 * (endIn ns k - k) ≤ length record₀) where
+  abbrev G : Given
+  G = givenOf ns cs task
 
   abbrev j : ℕ
-  j = jointOf (g .codes) k
+  j = jointOf cs k
 
   abbrev end : ℕ
-  end = endIn (g .sizes) k
+  end = endIn ns k
 
   abbrev y : List Float
-  y = copyOf x (jointOf (g .codes) k)
+  y = copyOf x (jointOf cs k)
 
   abbrev seen : ℕ → Pose
-  seen = viewOf frames (drop a frames) k (endIn (g .sizes) k)
+  seen = viewOf frames (drop a frames) k (endIn ns k)
 
   first-pose : (l : ℕ) → l < length cs → listPose frames l ≡ poseOf ns cs gs x l
   unfolding listPose
@@ -185,9 +194,9 @@ module _ (g : Given) (gs x : List Float) (ready : Ready g gs x) (k : ℕ) (insid
       (below-or l end))
       (below-or l k)
 
-  pub losses-copy : lossesOf g seen y ≡ lossesAt g gs y
-  unfolding lossesAt
-  losses-copy = losses-ext g seen (posesOf g gs y) y (ready .chains) (ready .paired) (λ l h. view-copy l (omega (arith, ready .sheet .whole)))
+  pub losses-copy : lossesOf G seen y ≡ lossesAt G gs y
+  unfolding lossesAt givenOf
+  losses-copy = losses-ext G seen (posesOf G gs y) y (ready .chains) (ready .paired) (λ l h. view-copy l (omega (arith, ready .sheet .whole)))
 
   raised : y ≡ raisedBy step x j
   raised = copy-joint x j (omega (arith, joint-small ns cs gs x (ready .sheet) k (omega arith)))
@@ -202,30 +211,34 @@ module _ (g : Given) (gs x : List Float) (ready : Ready g gs x) (k : ℕ) (insid
       either true = refl
       either false = refl
 
-  -- the first walk's losses stand where the copy touches nothing
-  pub standing-copy : (n : ℕ) (fs : List Float) → n ≡ length (objectivesOf g) → n ≤ length fs → take n fs ≡ lossesAt g gs x → Standing g seen y k end j fs
-  unfolding lossesAt
-  standing-copy n fs e h known =
-      standing-again g (listPose frames) seen x y k end j (λ l q. sym (view-outside frames (drop a frames) k end l q)) values
-      (numbers-raised x j (joint-in-block ns cs gs x (ready .sheet) k inside turns) ∙ ap noNumber (sym raised))
-      fs (omega arith)
-      (λ i l.
-      sym (getD-take n fs i nan (omega arith)) ∙ ap (λ (z : List Float). getD z i nan)
-      (known ∙ sym (losses-ext g (listPose frames) (posesOf g gs x) x (ready .chains) (ready .paired) (λ l h. first-pose l (omega (arith, ready .sheet .whole))))))
+  module _ (ks : List ℕ) (fs slopes : List Float) (known : Known ns cs task gs x ks fs slopes) where
+    many : length ks ≡ length (objectivesOf G)
+    unfolding givenOf
+    many = ap length (known .kinds) ∙ kinds-length ns cs
 
-  -- so the slope is the gradient's entry
-  pub slope-copy : (ws fs : List Float) → take (length (objectivesOf g)) fs ≡ lossesAt g gs x → slopeTo ws g fs seen y ≡ gradientAt ws g gs x j
-  unfolding slopeTo
-  slope-copy ws fs known =
-      let n : ℕ = length (objectivesOf g) in
-      slope-is ws g gs x fs (lossesOf g seen y) n j refl known
-      (take-all n (lossesOf g seen y) (omega (arith, losses-many g seen y)) ∙ losses-copy ∙ ap (lossesAt g gs) raised)
+    -- the first walk's losses stand where the copy touches nothing
+    pub standing-copy : Standing G seen y k end j fs
+    unfolding lossesAt givenOf
+    standing-copy =
+        standing-again G (listPose frames) seen x y k end j (λ l q. sym (view-outside frames (drop a frames) k end l q)) values
+        (numbers-raised x j (joint-in-block ns cs gs x (ready .sheet) k inside turns) ∙ ap noNumber (sym raised))
+        fs (omega (arith, many, known .losses-room))
+        (λ i l.
+        sym (getD-take (length ks) fs i nan (omega (arith, many))) ∙ ap (λ (z : List Float). getD z i nan)
+        (known .losses ∙ sym (losses-ext G (listPose frames) (posesOf G gs x) x (ready .chains) (ready .paired) (λ l h. first-pose l (omega (arith, ready .sheet .whole))))))
 
-  -- the same, of a block, an end and a joint number that are known to be these
-  module _ (block : List Float) (to : ℕ) (is : block ≡ y) (ends : to ≡ end) where
-    pub standing-at : (joint n : ℕ) (fs : List Float) → joint ≡ j → n ≡ length (objectivesOf g) → n ≤ length fs → take n fs ≡ lossesAt g gs x
-        → Standing g (viewOf frames (drop a frames) k to) block k to joint fs
-    standing-at joint n fs number e h known = rw (is, ends, number) (standing-copy n fs e h known)
+    -- so the slope is the gradient's entry
+    pub slope-copy : slopeTo G fs seen y ≡ gradientAt G gs x j
+    unfolding slopeTo gradientAt givenOf
+    slope-copy =
+        let os : List ℕ = kindsOf ns cs in
+        weighted-slopes G gs x os refl (raisedBy step x j) fs (lossesOf G seen y) (ap (λ (n : List ℕ). take (length n) fs) (sym (known .kinds)) ∙ known .losses)
+        (take-all (length os) (lossesOf G seen y) (omega (arith, losses-many G seen y, kinds-length ns cs)) ∙ losses-copy ∙ ap (lossesAt G gs) raised)
 
-    pub slope-at : (ws fs : List Float) → take (length (objectivesOf g)) fs ≡ lossesAt g gs x → slopeTo ws g fs (viewOf frames (drop a frames) k to) block ≡ gradientAt ws g gs x j
-    slope-at ws fs known = rw (is, ends) (slope-copy ws fs known)
+    -- the same, of a block, an end and a joint number that are known to be these
+    module _ (block : List Float) (to : ℕ) (is : block ≡ y) (ends : to ≡ end) where
+      pub standing-at : (joint : ℕ) → joint ≡ j → Standing G (viewOf frames (drop a frames) k to) block k to joint fs
+      standing-at joint number = rw (is, ends, number) standing-copy
+
+      pub slope-at : slopeTo G fs (viewOf frames (drop a frames) k to) block ≡ gradientAt G gs x j
+      slope-at = rw (is, ends) slope-copy

@@ -11,6 +11,7 @@ ghost use lib.Ieee.{Float, nan};
 ghost use Rattle.lists.specs.Splice.{splice};
 ghost use Rattle.lists.specs.Runs.{runs};
 ghost use Rattle.sheet.specs.Chain.{jointOf};
+ghost use Rattle.task.specs.Task.{lent};
 ghost use Rattle.spacetime.specs.Floats.{flat};
 ghost use Rattle.spacetime.specs.Walk.{Sheet, poses};
 ghost use Rattle.gradient.specs.Slopes.{step};
@@ -29,7 +30,7 @@ pub fn walk_link(
     here: Place,
     sizes: &[u16],
     codes: &[u16],
-    geo: &[f64],
+    floats: &[f64],
     block: &[f64],
     link: usize,
     raised: u16,
@@ -37,18 +38,18 @@ pub fn walk_link(
     links: &mut [u16],
     frames: &mut [f64],
 ) -> Place
-    requires { ⌜ Sheet (now sizes) (now codes) (now geo) (now block) ⌝ }
+    requires { ⌜ Sheet (now sizes) (now codes) (now floats) (now block) ⌝ }
     requires { ⌜ (link < length (now codes)) × (here .joint ≡ jointOf (now codes) link) ⌝ }
     requires { ⌜ Room (now joints) (now links) (now frames) (here .at + 1) ⌝ }
-    ensures { λ r. ⌜ r ≡ placeAfter (now (sizes .entry)) (now (codes .entry)) (now (geo .entry)) (now (block .entry)) link here ⌝ }
-    ensures { λ _. ⌜ now (joints .exit) ≡ splice (now (joints .entry)) (here .at) (raised ∷ []) ⌝ }
-    ensures { λ _. ⌜ now (links .exit) ≡ splice (now (links .entry)) (here .at) (link ∷ []) ⌝ }
-    ensures { λ r. ⌜ now (frames .exit) ≡ splice (now (frames .entry)) (7 * here .at) (flat (r .pose)) ⌝ }
+    ensures { λ r. ⌜ r ≡ placeAfter (lent sizes) (lent codes) (lent floats) (lent block) link here ⌝ }
+    ensures { λ _. ⌜ now (joints .exit) ≡ splice (lent joints) (here .at) (raised ∷ []) ⌝ }
+    ensures { λ _. ⌜ now (links .exit) ≡ splice (lent links) (here .at) (link ∷ []) ⌝ }
+    ensures { λ r. ⌜ now (frames .exit) ≡ splice (lent frames) (7 * here .at) (flat (r .pose)) ⌝ }
 {
     let at = here.at;
     let joint = here.joint;
     let before = arm::start(sizes, link, here.pose);
-    let pose = arm::after_link(before, codes, geo, block, link, joint);
+    let pose = arm::after_link(before, codes, floats, block, link, joint);
     joints[at] = raised;
     links[at] = link as u16;
     floats::put(frames, 7 * at, pose);
@@ -63,7 +64,7 @@ pub fn walk_link(
 pub fn walk(
     sizes: &[u16],
     codes: &[u16],
-    geo: &[f64],
+    floats: &[f64],
     block: &[f64],
     from: usize,
     to: usize,
@@ -73,15 +74,15 @@ pub fn walk(
     links: &mut [u16],
     frames: &mut [f64],
 ) -> Place
-    requires { ⌜ Sheet (now sizes) (now codes) (now geo) (now block) ⌝ }
+    requires { ⌜ Sheet (now sizes) (now codes) (now floats) (now block) ⌝ }
     requires { ⌜ (from ≤ to) × (to ≤ length (now codes)) ⌝ }
-    requires { ⌜ Meets (now sizes) (now codes) (now geo) (now block) from here ⌝ }
+    requires { ⌜ Meets (now sizes) (now codes) (now floats) (now block) from here ⌝ }
     requires { ⌜ Room (now joints) (now links) (now frames) (here .at + (to - from)) ⌝ }
-    ensures { λ r. ⌜ r ≡ placeAfterAll (now (sizes .entry)) (now (codes .entry)) (now (geo .entry)) (now (block .entry)) from (to - from) here ⌝ }
-    ensures { λ _. ⌜ now (joints .exit) ≡ splice (now (joints .entry)) (here .at) (runs (jointEntry raised) from (to - from)) ⌝ }
-    ensures { λ _. ⌜ now (links .exit) ≡ splice (now (links .entry)) (here .at) (runs (linkEntry raised) from (to - from)) ⌝ }
-    ensures { λ _. ⌜ now (frames .exit) ≡ splice (now (frames .entry)) (7 * here .at)
-        (runs (poses (now (sizes .entry)) (now (codes .entry)) (now (geo .entry)) (now (block .entry))) from (to - from)) ⌝ }
+    ensures { λ r. ⌜ r ≡ placeAfterAll (lent sizes) (lent codes) (lent floats) (lent block) from (to - from) here ⌝ }
+    ensures { λ _. ⌜ now (joints .exit) ≡ splice (lent joints) (here .at) (runs (jointEntry raised) from (to - from)) ⌝ }
+    ensures { λ _. ⌜ now (links .exit) ≡ splice (lent links) (here .at) (runs (linkEntry raised) from (to - from)) ⌝ }
+    ensures { λ _. ⌜ now (frames .exit) ≡ splice (lent frames) (7 * here .at)
+        (runs (poses (lent sizes) (lent codes) (lent floats) (lent block)) from (to - from)) ⌝ }
 {
     let mut p = here;
     let mut link = from;
@@ -90,7 +91,7 @@ pub fn walk(
             p,
             sizes,
             codes,
-            geo,
+            floats,
             block,
             link,
             raised,
@@ -106,8 +107,8 @@ pub fn walk(
 // Raises a joint of the block, and answers its old value.
 pub fn raise(block: &mut [f64], joint: usize) -> f64
     requires { ⌜ joint < length (now block) ⌝ }
-    ensures { λ r. ⌜ r ≡ getD (now (block .entry)) joint nan ⌝ }
-    ensures { λ _. ⌜ now (block .exit) ≡ raisedBy step (now (block .entry)) joint ⌝ }
+    ensures { λ r. ⌜ r ≡ getD (lent block) joint nan ⌝ }
+    ensures { λ _. ⌜ now (block .exit) ≡ raisedBy step (lent block) joint ⌝ }
 {
     let old = block[joint];
     block[joint] = old + 0.0000001;
@@ -118,7 +119,7 @@ pub fn raise(block: &mut [f64], joint: usize) -> f64
 pub fn walk_again(
     sizes: &[u16],
     codes: &[u16],
-    geo: &[f64],
+    floats: &[f64],
     block: &mut [f64],
     link: usize,
     end: usize,
@@ -127,22 +128,22 @@ pub fn walk_again(
     links: &mut [u16],
     frames: &mut [f64],
 ) -> usize
-    requires { ⌜ Sheet (now sizes) (now codes) (now geo) (now block) ⌝ }
+    requires { ⌜ Sheet (now sizes) (now codes) (now floats) (now block) ⌝ }
     requires { ⌜ (link ≤ end) × (end ≤ length (now codes)) ⌝ }
-    requires { ⌜ Meets (now sizes) (now codes) (now geo) (now block) link here ⌝ }
+    requires { ⌜ Meets (now sizes) (now codes) (now floats) (now block) link here ⌝ }
     requires { ⌜ Room (now joints) (now links) (now frames) (here .at + (end - link)) ⌝ }
     ensures { λ r. ⌜ r ≡ here .at + (end - link) ⌝ }
-    ensures { λ _. ⌜ now (block .exit) ≡ now (block .entry) ⌝ }
-    ensures { λ _. ⌜ now (joints .exit) ≡ splice (now (joints .entry)) (here .at) (runs (jointEntry (here .joint)) link (end - link)) ⌝ }
-    ensures { λ _. ⌜ now (links .exit) ≡ splice (now (links .entry)) (here .at) (runs (linkEntry (here .joint)) link (end - link)) ⌝ }
-    ensures { λ _. ⌜ now (frames .exit) ≡ splice (now (frames .entry)) (7 * here .at)
-        (runs (poses (now (sizes .entry)) (now (codes .entry)) (now (geo .entry)) (now (block .entry))) link (end - link)) ⌝ }
+    ensures { λ _. ⌜ now (block .exit) ≡ lent block ⌝ }
+    ensures { λ _. ⌜ now (joints .exit) ≡ splice (lent joints) (here .at) (runs (jointEntry (here .joint)) link (end - link)) ⌝ }
+    ensures { λ _. ⌜ now (links .exit) ≡ splice (lent links) (here .at) (runs (linkEntry (here .joint)) link (end - link)) ⌝ }
+    ensures { λ _. ⌜ now (frames .exit) ≡ splice (lent frames) (7 * here .at)
+        (runs (poses (lent sizes) (lent codes) (lent floats) (lent block)) link (end - link)) ⌝ }
 {
     let raised = here.joint as u16;
     let after = walk(
         sizes,
         codes,
-        geo,
+        floats,
         block,
         link,
         end,
@@ -155,11 +156,11 @@ pub fn walk_again(
     after.at
 }
 
-// Puts a joint's old value back: whatever the block was before the joint was raised, and however far, it is that block again.
+// Puts a joint's old value back: a block that was raised there is again what it was.
 pub fn put_back(block: &mut [f64], joint: usize, old: f64)
     requires { ⌜ joint < length (now block) ⌝ }
-    ensures stored { λ _. ⌜ now (block .exit) ≡ set (now (block .entry)) joint old ⌝ }
-    ensures restored { λ _. ⌜ ((x : List Float) (h : Float) → now (block .entry) ≡ raisedBy h x joint → old ≡ getD x joint nan → now (block .exit) ≡ x) ⌝ }
+    ensures { λ _. ⌜ now (block .exit) ≡ set (lent block) joint old ⌝ }
+    ensures { λ _. ⌜ ((x : List Float) (h : Float) → lent block ≡ raisedBy h x joint → old ≡ getD x joint nan → now (block .exit) ≡ x) ⌝ }
 {
     block[joint] = old;
 }

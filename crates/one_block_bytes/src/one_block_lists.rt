@@ -1,7 +1,6 @@
 // What the byte call of the one-block gradient does once its lists are decoded; outputs are bytes.
 use lent_bytes::lent as bytes_lent;
 use objective_bytes::objective_lists;
-use objective_master::weights;
 use one_block::grad;
 use one_block_calls::slopes as room;
 use refusals::lengths;
@@ -81,22 +80,14 @@ fn one_block_on(
     ensures { λ _. ⌜ now (slopes .exit) ≡ splice (lent slopes) 0 (gradientSlopes (sheetOf sizes codes floats limits) (lent goals) (lent history) (lent block)) ⌝ }
     ensures { λ _. ⌜ RecordHeld (sheetOf sizes codes floats limits) (lent block) «record_joints» «record_links» «record_poses» ⌝ }
 {
-    let w = weights::weight_priors();
     let counts = shape::links(sizes);
-    let n = block.len();
-    let xopt = objective_lists::block_from(history, 0, n);
-    let prev_state = objective_lists::block_from(history, n, n);
-    let prev_state2 = objective_lists::block_from(history, 2 * n, n);
+    let mut task = [0.0; task::LENGTH];
+    objective_lists::lay_task(limits, goals, history, block.len(), &mut task);
     grad::gradient(
-        &w,
         counts,
         codes,
         floats,
-        limits,
-        goals,
-        xopt,
-        prev_state,
-        prev_state2,
+        &task,
         block,
         slopes,
         record_joints,
@@ -138,7 +129,6 @@ fn put_record(
     bytes_lent::put_floats(&poses[..wide], 0, record_poses);
 }
 
-// The block is the first n of x.
 pub(crate) fn gradient_one_block(
     sizes: &[u16],
     codes: &[u16],
@@ -146,20 +136,18 @@ pub(crate) fn gradient_one_block(
     limits: &[f64],
     goals: &[f64],
     history: &[f64],
-    x: &mut [f64],
-    n: usize,
+    block: &mut [f64],
     value: &mut [u8],
     slopes: &mut [u8],
     record_joints: &mut [u8],
     record_links: &mut [u8],
     record_poses: &mut [u8],
 ) -> u16
-    requires { ⌜ n ≤ length (now x) ⌝ }
-    ensures number { λ r. ⌜ r ≡ oneBlockNumber (sheetOf sizes codes floats limits) (lent goals) (lent history) (take n (lent x))
+    ensures number { λ r. ⌜ r ≡ oneBlockNumber (sheetOf sizes codes floats limits) (lent goals) (lent history) (lent block)
         (roomOf value) (roomOf slopes) (numberRoomOf «record_joints») (numberRoomOf «record_links») (roomOf «record_poses») ⌝ }
-    ensures value { λ r. ⌜ now (value .exit) ≡ outputOf r value (objectiveValue (sheetOf sizes codes floats limits) (lent goals) (lent history) (take n (lent x))) ⌝ }
-    ensures slopes { λ r. ⌜ now (slopes .exit) ≡ outputOf r slopes (gradientSlopes (sheetOf sizes codes floats limits) (lent goals) (lent history) (take n (lent x))) ⌝ }
-    ensures record { λ r. ⌜ RecordWritten r (sheetOf sizes codes floats limits) (take n (lent x)) «record_joints» «record_links» «record_poses» ⌝ }
+    ensures value { λ r. ⌜ now (value .exit) ≡ outputOf r value (objectiveValue (sheetOf sizes codes floats limits) (lent goals) (lent history) (lent block)) ⌝ }
+    ensures slopes { λ r. ⌜ now (slopes .exit) ≡ outputOf r slopes (gradientSlopes (sheetOf sizes codes floats limits) (lent goals) (lent history) (lent block)) ⌝ }
+    ensures record { λ r. ⌜ RecordWritten r (sheetOf sizes codes floats limits) (lent block) «record_joints» «record_links» «record_poses» ⌝ }
 {
     let number = one_block_number(
         sizes,
@@ -168,7 +156,7 @@ pub(crate) fn gradient_one_block(
         limits,
         goals,
         history,
-        &x[..n],
+        block,
         value.len(),
         slopes.len(),
         record_joints.len(),
@@ -189,13 +177,13 @@ pub(crate) fn gradient_one_block(
         limits,
         goals,
         history,
-        &mut x[..n],
+        block,
         &mut d,
         &mut rj,
         &mut rl,
         &mut rp,
     );
-    put_slopes(v, &d, n, value, slopes);
+    put_slopes(v, &d, block.len(), value, slopes);
     let m = entries(sizes, codes, floats, limits);
     put_record(&rj, &rl, &rp, m, record_joints, record_links, record_poses);
     0

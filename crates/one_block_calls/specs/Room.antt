@@ -3,15 +3,18 @@ use mathlib.Core.Path.{_≡_}
 use mathlib.Core.List.{List}
 use Prim.Native.Nat.{ℕ, _≤_}
 use native.Mathlib.Omega.{arith}
+use denote.Ref.{RefT}
 use lib.Ieee.{Float}
 use lib.ListN.{length}
 use Rattle.sheet.specs.Chain.{total, joints}
+use Rattle.task.specs.Task.{LentList}
 use Rattle.refusals.specs.Lengths.{slopesLength, recordPosesLength}
 use Rattle.refusals.specs.Lowest.{firstOf, first-none}
 use Rattle.refusals.specs.Refusal.{blockRefusal, roomRefusal}
 use Rattle.refusals.specs.Passed.{block-passed, room-passed}
-use Rattle.one_block.specs.Record.{entriesOf, Room}
+use Rattle.one_block.specs.Record.{recordJoints, recordLinks, recordPoses, entriesOf, Room}
 use Rattle.one_block.specs.Laws.{below-most}
+use Rattle.objective_calls.specs.Aimed.{FrontIfTaken}
 
 -- a record of so many entries into lists of so many joints, links and floats of poses: 9
 unfoldable pub recordRefusal : ℕ → ℕ → ℕ → ℕ → ℕ
@@ -21,6 +24,10 @@ recordRefusal entries joints links poses = firstOf (roomRefusal entries joints) 
 unfoldable pub oneBlockRefusal : List ℕ → List ℕ → List Float → ℕ → ℕ → ℕ → ℕ → ℕ
 oneBlockRefusal ns cs x slopes recordJoints recordLinks recordPoses =
     firstOf (blockRefusal cs x) (firstOf (roomRefusal (slopesLength cs) slopes) (recordRefusal (entriesOf ns cs) recordJoints recordLinks recordPoses))
+
+-- the record's lists at exit, of a call with refusal number n
+abbrev pub RecordIfTaken : ℕ → LentList ℕ (RefT (List ℕ)) → LentList ℕ (RefT (List ℕ)) → LentList Float (RefT (List Float)) → List ℕ → List ℕ → List Float → List Float → Type 0
+RecordIfTaken n rj rl rp ns cs gs x = FrontIfTaken n rj (recordJoints ns cs) × FrontIfTaken n rl (recordLinks ns cs) × FrontIfTaken n rp (recordPoses ns cs gs x)
 
 -- ---- laws
 record-passed : (n : ℕ) (rj rl : List ℕ) (rp : List Float) → recordRefusal n (length rj) (length rl) (length rp) ≡ 0 → Room rj rl rp n

@@ -6,14 +6,12 @@ use refusals::lent;
 ghost use mathlib.Core.Path.{_≡_};
 ghost use Prim.Native.Nat.{_≤_};
 ghost use lib.ListN.{length};
-ghost use Rattle.lists.specs.Splice.{splice};
-ghost use Rattle.objective_master.specs.Losses.{given};
+ghost use Rattle.task.specs.Task.{lent, givenIn};
 ghost use Rattle.gradient.specs.Gradient.{valueAt, gradientOf};
-ghost use Rattle.one_block.specs.Record.{recordJoints, recordLinks, recordPoses};
-ghost use Rattle.calls.specs.Arms.{Accepted, ifTaken};
+ghost use Rattle.calls.specs.Arms.{Accepted};
 ghost use Rattle.calls.specs.Answer.{numberOf, answerValue, valueIf, answerOf};
-ghost use Rattle.objective_calls.specs.Aimed.{Aimed};
-ghost use Rattle.one_block_calls.specs.Room.{recordRefusal, oneBlockRefusal};
+ghost use Rattle.objective_calls.specs.Aimed.{Aimed, FrontIfTaken};
+ghost use Rattle.one_block_calls.specs.Room.{recordRefusal, oneBlockRefusal, RecordIfTaken};
 
 pub fn record_refusal(entries: usize, joints: usize, links: usize, poses: usize) -> u16
     requires { ⌜ entries ≤ 4160 ⌝ }
@@ -28,15 +26,15 @@ pub fn record_refusal(entries: usize, joints: usize, links: usize, poses: usize)
 fn one_block_refusal(
     sizes: &[u16],
     codes: &[u16],
-    geo: &[f64],
+    floats: &[f64],
     block: &[f64],
     slopes: usize,
     record_joints: usize,
     record_links: usize,
     record_poses: usize,
 ) -> u16
-    requires { ⌜ Accepted (now sizes) (now codes) (now geo) ⌝ }
-    ensures { λ r. ⌜ r ≡ oneBlockRefusal (now (sizes .entry)) (now (codes .entry)) (now (block .entry)) slopes «record_joints» «record_links» «record_poses» ⌝ }
+    requires { ⌜ Accepted (now sizes) (now codes) (now floats) ⌝ }
+    ensures { λ r. ⌜ r ≡ oneBlockRefusal (lent sizes) (lent codes) (lent block) slopes «record_joints» «record_links» «record_poses» ⌝ }
 {
     let seven = lent::block_refusal(codes, block);
     let room = lent::room_refusal(lengths::block_length(codes), slopes);
@@ -47,37 +45,27 @@ fn one_block_refusal(
 
 // Each objective's slope by a step of 1e-7. The block ends as it came, refused or not.
 pub fn gradient_one_block(
-    weights: &[f64],
     sizes: &[u16],
     codes: &[u16],
-    geo: &[f64],
-    limits: &[f64],
-    goals: &[f64],
-    xopt: &[f64],
-    prev_state: &[f64],
-    prev_state2: &[f64],
+    floats: &[f64],
+    task: &[f64],
     block: &mut [f64],
     slopes: &mut [f64],
     record_joints: &mut [u16],
     record_links: &mut [u16],
     record_poses: &mut [f64],
 ) -> Answer
-    requires { ⌜ Aimed (now weights) (given (now sizes) (now codes) (now limits) (now goals) (now xopt) (now «prev_state») (now «prev_state2»)) (now geo) ⌝ }
-    ensures number { λ r. ⌜ numberOf r ≡ oneBlockRefusal (now (sizes .entry)) (now (codes .entry)) (now (block .entry))
-        (length (now (slopes .entry))) (length (now («record_joints» .entry))) (length (now («record_links» .entry))) (length (now («record_poses» .entry))) ⌝ }
-    ensures value { λ r. ⌜ (answerValue r ≡ valueIf (numberOf r) (valueAt (now (weights .entry)) (given (now (sizes .entry)) (now (codes .entry)) (now (limits .entry)) (now (goals .entry)) (now (xopt .entry)) (now («prev_state» .entry)) (now («prev_state2» .entry))) (now (geo .entry)) (now (block .entry))))
-        × (r ≡ answerOf (numberOf r) (answerValue r)) ⌝ }
-    ensures block { λ _. ⌜ now (block .exit) ≡ now (block .entry) ⌝ }
-    ensures slopes { λ r. ⌜ now (slopes .exit) ≡ ifTaken (numberOf r) (now (slopes .entry)) (splice (now (slopes .entry)) 0
-        (gradientOf (now (weights .entry)) (given (now (sizes .entry)) (now (codes .entry)) (now (limits .entry)) (now (goals .entry)) (now (xopt .entry)) (now («prev_state» .entry)) (now («prev_state2» .entry))) (now (geo .entry)) (now (block .entry)))) ⌝ }
-    ensures record { λ r. ⌜ (now («record_joints» .exit) ≡ ifTaken (numberOf r) (now («record_joints» .entry)) (splice (now («record_joints» .entry)) 0 (recordJoints (now (sizes .entry)) (now (codes .entry)))))
-        × (now («record_links» .exit) ≡ ifTaken (numberOf r) (now («record_links» .entry)) (splice (now («record_links» .entry)) 0 (recordLinks (now (sizes .entry)) (now (codes .entry)))))
-        × (now («record_poses» .exit) ≡ ifTaken (numberOf r) (now («record_poses» .entry)) (splice (now («record_poses» .entry)) 0 (recordPoses (now (sizes .entry)) (now (codes .entry)) (now (geo .entry)) (now (block .entry))))) ⌝ }
+    requires { ⌜ Aimed (now sizes) (now codes) (now task) (now floats) ⌝ }
+    ensures number { λ r. ⌜ numberOf r ≡ oneBlockRefusal (lent sizes) (lent codes) (lent block) (length (lent slopes)) (length (lent «record_joints»)) (length (lent «record_links»)) (length (lent «record_poses»)) ⌝ }
+    ensures value { λ r. ⌜ (answerValue r ≡ valueIf (numberOf r) (valueAt (givenIn sizes codes task) (lent floats) (lent block))) × (r ≡ answerOf (numberOf r) (answerValue r)) ⌝ }
+    ensures block { λ _. ⌜ now (block .exit) ≡ lent block ⌝ }
+    ensures slopes { λ r. ⌜ FrontIfTaken (numberOf r) slopes (gradientOf (givenIn sizes codes task) (lent floats) (lent block)) ⌝ }
+    ensures record { λ r. ⌜ RecordIfTaken (numberOf r) «record_joints» «record_links» «record_poses» (lent sizes) (lent codes) (lent floats) (lent block) ⌝ }
 {
     let number = one_block_refusal(
         sizes,
         codes,
-        geo,
+        floats,
         block,
         slopes.len(),
         record_joints.len(),
@@ -88,15 +76,10 @@ pub fn gradient_one_block(
         return Answer::Refused(number);
     }
     let v = grad::gradient(
-        weights,
         sizes,
         codes,
-        geo,
-        limits,
-        goals,
-        xopt,
-        prev_state,
-        prev_state2,
+        floats,
+        task,
         block,
         slopes,
         record_joints,

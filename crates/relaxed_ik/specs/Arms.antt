@@ -4,7 +4,7 @@ use Prim.Native.Nat.{ℕ}
 use lib.Ieee.{Float}
 use Rattle.geometry.specs.declared.pose.Pose.{Pose}
 use Rattle.relaxed_ik.specs.declared.state.State.{State}
-use Rattle.relaxed_ik.specs.Kept.{framesKept, poseKept, blockKept, keptPose, manipulabilityKept}
+use Rattle.relaxed_ik.specs.StoredSheet.{framesKept, poseKept, blockKept, keptPose, manipulabilityKept}
 
 -- the pose after each link in the walk of block x
 abbrev pub posesOf : State → List Float → ℕ → Pose

@@ -1,10 +1,10 @@
 pub mod State
 pub mod Load
-pub mod Kept
+pub mod StoredSheet
 pub mod Arms
 pub mod Party
 pub mod Loaded
-pub mod Aim
+pub mod StoredTask
 pub mod Objective
 pub mod OneBlock
 pub mod Numbers

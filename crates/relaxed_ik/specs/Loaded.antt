@@ -16,7 +16,7 @@ use Rattle.refusals.specs.Passed.{Shape, load-first, load-passed}
 use Rattle.relaxed_ik.specs.declared.state.State.{State}
 use Rattle.relaxed_ik.specs.State.{zeros, sizesUsed, linksUsed, codesUsed, floatsUsed, limitsUsed, haveSheet, emptyArms, emptyParty, emptyState}
 use Rattle.relaxed_ik.specs.Load.{armsOf, loadOf, outcomeOf}
-use Rattle.relaxed_ik.specs.Kept.{drop-take}
+use Rattle.relaxed_ik.specs.StoredSheet.{drop-take}
 
 -- at the start there are no arms
 pub none-loaded : haveSheet (emptyState .arms .sizes) (emptyState .arms .codes) ≡ false

@@ -13,8 +13,8 @@ use Rattle.calls.specs.Rows.{framesRows, poseRows, block-alone, frames-rows, po
 use Rattle.objective_calls.specs.Rows.{slopesRows, slopes-rows}
 use Rattle.one_block_calls.specs.Rows.{oneBlockRows, one-block-rows}
 use Rattle.relaxed_ik.specs.State.{linksUsed, codesUsed, haveSheet}
-use Rattle.relaxed_ik.specs.Kept.{ifArms, framesKept, poseKept, blockKept, goalsKept, updateKept}
-use Rattle.relaxed_ik.specs.Aim.{aimNumber, ifAimed, objectiveKept, slopesKept}
+use Rattle.relaxed_ik.specs.StoredSheet.{ifArms, framesKept, poseKept, blockKept, goalsKept, updateKept}
+use Rattle.relaxed_ik.specs.StoredTask.{aimNumber, ifAimed, objectiveKept, slopesKept}
 use Rattle.relaxed_ik.specs.OneBlock.{oneBlockKept}
 
 -- no arms loaded; no goals; no reset since loading

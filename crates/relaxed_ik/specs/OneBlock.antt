@@ -2,12 +2,14 @@
 use mathlib.Core.Bool.{Bool}
 use mathlib.Core.List.{List}
 use Prim.Native.Nat.{ℕ}
+use denote.Ref.{RefT}
 use lib.Ieee.{Float}
+use Rattle.task.specs.Task.{LentList}
 use Rattle.one_block.specs.Record.{recordJoints, recordLinks, recordPoses}
-use Rattle.one_block_calls.specs.Room.{oneBlockRefusal}
+use Rattle.one_block_calls.specs.Room.{oneBlockRefusal, RecordIfTaken}
 use Rattle.relaxed_ik.specs.declared.state.State.{State}
-use Rattle.relaxed_ik.specs.State.{linksUsed, codesUsed}
-use Rattle.relaxed_ik.specs.Aim.{ifAimed}
+use Rattle.relaxed_ik.specs.State.{linksUsed, codesUsed, floatsUsed}
+use Rattle.relaxed_ik.specs.StoredTask.{ifAimed}
 use Rattle.relaxed_ik.specs.Objective.{linkFloats}
 
 -- 20, 21, 22, then 7, then 9, lent lists of so many slopes, joints, links and floats of poses
@@ -26,3 +28,7 @@ recordLinksOf s = recordLinks (linksUsed (s .arms .sizes)) (codesUsed (s .arms .
 
 abbrev pub recordPosesOf : State → List Float → List Float
 recordPosesOf s x = recordPoses (linksUsed (s .arms .sizes)) (codesUsed (s .arms .sizes) (s .arms .codes)) (linkFloats s) x
+
+-- and these lists at exit, of a call with number n
+abbrev pub RecordKept : ℕ → LentList ℕ (RefT (List ℕ)) → LentList ℕ (RefT (List ℕ)) → LentList Float (RefT (List Float)) → List ℕ → List ℕ → List Float → List Float → Type 0
+RecordKept n rj rl rp ss cs gs x = RecordIfTaken n rj rl rp (linksUsed ss) (codesUsed ss cs) (floatsUsed ss gs) x

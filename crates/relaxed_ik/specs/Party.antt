@@ -15,7 +15,7 @@ use Rattle.relaxed_ik.specs.declared.state.State.{State}
 use Rattle.relaxed_ik.specs.declared.state.Outcome.{Outcome}
 use Rattle.relaxed_ik.specs.State.{zeros, linksUsed, stored}
 use Rattle.relaxed_ik.specs.Load.{outcomeOf}
-use Rattle.relaxed_ik.specs.Kept.{blockKept, goalsKept, updateKept, there}
+use Rattle.relaxed_ik.specs.StoredSheet.{blockKept, goalsKept, updateKept, there}
 use Rattle.relaxed_ik.specs.Arms.{posesOf}
 
 -- goals, zeros behind them

@@ -6,7 +6,7 @@ use Prim.Native.Nat.{ℕ, _+_, _*_, _≤_}
 use lib.Dec.{eqb, ltb}
 use borrow.Author.Tests.{ltb-false, eqb-true}
 use lib.Ieee.{Float}
-use lib.ListN.{replicate, take, drop, getD}
+use lib.ListN.{length, replicate, take, drop, getD}
 use Rattle.standins.specs.Num.{nought}
 use Rattle.sheet.specs.Chain.{total, joints}
 use Rattle.refusals.specs.Refusal.{shapeRefusal}
@@ -51,6 +51,14 @@ floatsUsed ss gs = take (7 * total (linksUsed ss)) gs
 -- two limits a joint
 unfoldable pub limitsUsed : List ℕ → List ℕ → List Float → List Float
 limitsUsed ss cs ls = take (2 * joints (codesUsed ss cs)) ls
+
+-- thirteen floats a chain
+unfoldable pub goalsUsed : List ℕ → List Float → List Float
+goalsUsed ss goals = take (13 * length (linksUsed ss)) goals
+
+-- a block of the history: a float a joint
+unfoldable pub blockUsed : List ℕ → List ℕ → List Float → List Float
+blockUsed ss cs x = take (joints (codesUsed ss cs)) x
 
 -- arms are there: at most four chains and 64 links, of lengths and codes that loading takes
 unfoldable pub haveSheet : List ℕ → List ℕ → Bool

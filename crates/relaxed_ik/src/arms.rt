@@ -1,6 +1,6 @@
 // Calls that ask the arms alone.
-use crate::kept;
 use crate::state::State;
+use crate::stored_sheet;
 use calls::answer::Answer;
 ghost use mathlib.Core.Path.{_≡_};
 ghost use lib.ListN.{length};
@@ -23,7 +23,7 @@ pub fn frames(state: State, joints: &[f64], positions: &mut [f64], rotations: &m
     let sizes = arms.sizes;
     let codes = arms.codes;
     let floats = arms.floats;
-    kept::frames_on(&sizes, &codes, &floats, joints, positions, rotations)
+    stored_sheet::frames_on(&sizes, &codes, &floats, joints, positions, rotations)
 }
 
 // The end pose of each chain: position and rotation, seven floats.
@@ -36,7 +36,7 @@ pub fn pose(state: State, joints: &[f64], ends: &mut [f64]) -> u16
     let sizes = arms.sizes;
     let codes = arms.codes;
     let floats = arms.floats;
-    kept::pose_on(&sizes, &codes, &floats, joints, ends)
+    stored_sheet::pose_on(&sizes, &codes, &floats, joints, ends)
 }
 
 // The arm's manipulability, summed over its chains.
@@ -49,5 +49,5 @@ pub fn manipulability(state: State, joints: &[f64]) -> Answer
     let sizes = arms.sizes;
     let codes = arms.codes;
     let floats = arms.floats;
-    kept::manipulability_on(&sizes, &codes, &floats, joints)
+    stored_sheet::manipulability_on(&sizes, &codes, &floats, joints)
 }

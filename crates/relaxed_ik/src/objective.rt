@@ -1,14 +1,17 @@
 // The objective and its gradients.
-use crate::aim;
 use crate::state::State;
+use crate::stored_task;
 use calls::answer::Answer;
-use objective_master::weights;
+use gradient::slopes::Rule;
 ghost use mathlib.Core.Path.{_≡_};
 ghost use lib.ListN.{length};
 ghost use Rattle.lists.specs.Splice.{splice};
+ghost use Rattle.task.specs.Task.{lent};
+ghost use Rattle.gradient.specs.Gradient.{slopesOf};
 ghost use Rattle.calls.specs.Arms.{ifTaken};
 ghost use Rattle.calls.specs.Answer.{numberOf, answerValue, valueIf, answerOf};
-ghost use Rattle.relaxed_ik.specs.Objective.{objectiveNumberOf, objectiveValueOf, gradientNumberOf, gradientSlopesOf, finiteDiffSlopesOf};
+ghost use Rattle.objective_calls.specs.Aimed.{FrontIfTaken};
+ghost use Rattle.relaxed_ik.specs.Objective.{givenOf, linkFloats, objectiveNumberOf, objectiveValueOf, gradientNumberOf, gradientSlopesOf, finiteDiffSlopesOf};
 
 // The weighted sum of all objectives at a block of joints.
 pub fn objective(state: State, joints: &[f64]) -> Answer
@@ -22,25 +25,52 @@ pub fn objective(state: State, joints: &[f64]) -> Answer
     let floats = arms.floats;
     let limits = arms.limits;
     let party = state.party;
-    let goals = party.goals;
-    let history = party.history;
-    let xopt = history.xopt;
-    let prev_state = history.prev_state;
-    let prev_state2 = history.prev_state2;
-    let priors = weights::weight_priors();
-    aim::objective_on(
-        &priors,
+    let mut task = [0.0; task::LENGTH];
+    stored_task::lay_task(&limits, party, &mut task);
+    stored_task::objective_on(
         &sizes,
         &codes,
         &floats,
-        &limits,
-        &goals,
-        &xopt,
-        &prev_state,
-        &prev_state2,
+        &task,
         party.has_goals,
         party.started,
         joints,
+    )
+}
+
+// Either gradient, by its rule.
+fn gradient_by(
+    rule: Rule,
+    state: State,
+    joints: &[f64],
+    scratch: &mut [f64],
+    slopes: &mut [f64],
+) -> Answer
+    ensures number { λ r. ⌜ numberOf r ≡ gradientNumberOf state (lent joints) (length (lent scratch)) (length (lent slopes)) ⌝ }
+    ensures value { λ r. ⌜ answerValue r ≡ valueIf (numberOf r) (objectiveValueOf state (lent joints)) ⌝ }
+    ensures case { λ r. ⌜ r ≡ answerOf (numberOf r) (answerValue r) ⌝ }
+    ensures scratch { λ r. ⌜ FrontIfTaken (numberOf r) scratch (lent joints) ⌝ }
+    ensures slopes { λ r. ⌜ FrontIfTaken (numberOf r) slopes (slopesOf rule (givenOf state) (linkFloats state) (lent joints)) ⌝ }
+{
+    let arms = state.arms;
+    let sizes = arms.sizes;
+    let codes = arms.codes;
+    let floats = arms.floats;
+    let limits = arms.limits;
+    let party = state.party;
+    let mut task = [0.0; task::LENGTH];
+    stored_task::lay_task(&limits, party, &mut task);
+    stored_task::gradient_on(
+        rule,
+        &sizes,
+        &codes,
+        &floats,
+        &task,
+        party.has_goals,
+        party.started,
+        joints,
+        scratch,
+        slopes,
     )
 }
 
@@ -52,34 +82,7 @@ pub fn gradient(state: State, joints: &[f64], scratch: &mut [f64], slopes: &mut 
     ensures scratch { λ r. ⌜ now (scratch .exit) ≡ ifTaken (numberOf r) (now (scratch .entry)) (splice (now (scratch .entry)) 0 (now (joints .entry))) ⌝ }
     ensures slopes { λ r. ⌜ now (slopes .exit) ≡ ifTaken (numberOf r) (now (slopes .entry)) (splice (now (slopes .entry)) 0 (gradientSlopesOf state (now (joints .entry)))) ⌝ }
 {
-    let arms = state.arms;
-    let sizes = arms.sizes;
-    let codes = arms.codes;
-    let floats = arms.floats;
-    let limits = arms.limits;
-    let party = state.party;
-    let goals = party.goals;
-    let history = party.history;
-    let xopt = history.xopt;
-    let prev_state = history.prev_state;
-    let prev_state2 = history.prev_state2;
-    let priors = weights::weight_priors();
-    aim::gradient_on(
-        &priors,
-        &sizes,
-        &codes,
-        &floats,
-        &limits,
-        &goals,
-        &xopt,
-        &prev_state,
-        &prev_state2,
-        party.has_goals,
-        party.started,
-        joints,
-        scratch,
-        slopes,
-    )
+    gradient_by(Rule::EachLoss, state, joints, scratch, slopes)
 }
 
 // The slope of the objective along each joint by a step of 1e-6, and the objective at the joints. Scratch ends equal to the joints.
@@ -95,32 +98,5 @@ pub fn gradient_finite_diff(
     ensures scratch { λ r. ⌜ now (scratch .exit) ≡ ifTaken (numberOf r) (now (scratch .entry)) (splice (now (scratch .entry)) 0 (now (joints .entry))) ⌝ }
     ensures slopes { λ r. ⌜ now (slopes .exit) ≡ ifTaken (numberOf r) (now (slopes .entry)) (splice (now (slopes .entry)) 0 (finiteDiffSlopesOf state (now (joints .entry)))) ⌝ }
 {
-    let arms = state.arms;
-    let sizes = arms.sizes;
-    let codes = arms.codes;
-    let floats = arms.floats;
-    let limits = arms.limits;
-    let party = state.party;
-    let goals = party.goals;
-    let history = party.history;
-    let xopt = history.xopt;
-    let prev_state = history.prev_state;
-    let prev_state2 = history.prev_state2;
-    let priors = weights::weight_priors();
-    aim::gradient_finite_diff_on(
-        &priors,
-        &sizes,
-        &codes,
-        &floats,
-        &limits,
-        &goals,
-        &xopt,
-        &prev_state,
-        &prev_state2,
-        party.has_goals,
-        party.started,
-        joints,
-        scratch,
-        slopes,
-    )
+    gradient_by(Rule::WeightedSum, state, joints, scratch, slopes)
 }

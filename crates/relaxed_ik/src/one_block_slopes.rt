@@ -1,33 +1,26 @@
 // The gradient on one block, which is raised and put back joint after joint, and its record.
-use crate::aim;
 use crate::state;
 use crate::state::State;
+use crate::stored_task;
 use calls::answer::Answer;
-use objective_master::weights;
 use one_block_calls::slopes;
 ghost use mathlib.Core.Path.{_≡_};
 ghost use lib.ListN.{length};
-ghost use Rattle.lists.specs.Splice.{splice};
-ghost use Rattle.gradient.specs.Gradient.{valueAt, gradientOf};
-ghost use Rattle.one_block.specs.Record.{recordJoints, recordLinks, recordPoses};
-ghost use Rattle.calls.specs.Arms.{ifTaken};
+ghost use Rattle.task.specs.Task.{lent};
+ghost use Rattle.gradient.specs.Gradient.{gradientOf};
 ghost use Rattle.calls.specs.Answer.{numberOf, answerValue, valueIf, answerOf};
-ghost use Rattle.relaxed_ik.specs.State.{linksUsed, codesUsed, floatsUsed};
-ghost use Rattle.relaxed_ik.specs.Aim.{Arrays, givenKept};
+ghost use Rattle.objective_calls.specs.Aimed.{FrontIfTaken};
+ghost use Rattle.relaxed_ik.specs.State.{floatsUsed};
+ghost use Rattle.relaxed_ik.specs.StoredTask.{Arrays, givenKept, valueKept};
 ghost use Rattle.relaxed_ik.specs.Objective.{objectiveValueOf, gradientSlopesOf};
-ghost use Rattle.relaxed_ik.specs.OneBlock.{oneBlockKept, oneBlockNumberOf, recordJointsOf, recordLinksOf, recordPosesOf};
+ghost use Rattle.relaxed_ik.specs.OneBlock.{oneBlockKept, oneBlockNumberOf, recordJointsOf, recordLinksOf, recordPosesOf, RecordKept};
 
 // On the stored lists, zeros behind them: 20, 21 and 22 before the call's own numbers.
 fn gradient_one_block_on(
-    weights: &[f64],
     sizes: &[u16],
     codes: &[u16],
     floats: &[f64],
-    limits: &[f64],
-    goals: &[f64],
-    xopt: &[f64],
-    prev_state: &[f64],
-    prev_state2: &[f64],
+    task: &[f64],
     has_goals: bool,
     started: bool,
     block: &mut [f64],
@@ -36,17 +29,15 @@ fn gradient_one_block_on(
     record_links: &mut [u16],
     record_poses: &mut [f64],
 ) -> Answer
-    requires { ⌜ Arrays (now sizes) (now codes) (now floats) (now limits) (now goals) (now xopt) (now «prev_state») (now «prev_state2») × (length (now weights) ≡ 8) ⌝ }
-    ensures number { λ r. ⌜ numberOf r ≡ oneBlockKept (now (sizes .entry)) (now (codes .entry)) «has_goals» started (now (block .entry)) (length (now (slopes .entry))) (length (now («record_joints» .entry))) (length (now («record_links» .entry))) (length (now («record_poses» .entry))) ⌝ }
-    ensures value { λ r. ⌜ (answerValue r ≡ valueIf (numberOf r) (valueAt (now (weights .entry)) (givenKept (now (sizes .entry)) (now (codes .entry)) (now (limits .entry)) (now (goals .entry)) (now (xopt .entry)) (now («prev_state» .entry)) (now («prev_state2» .entry))) (floatsUsed (now (sizes .entry)) (now (floats .entry))) (now (block .entry)))) × (r ≡ answerOf (numberOf r) (answerValue r)) ⌝ }
-    ensures block { λ _. ⌜ now (block .exit) ≡ now (block .entry) ⌝ }
-    ensures slopes { λ r. ⌜ now (slopes .exit) ≡ ifTaken (numberOf r) (now (slopes .entry)) (splice (now (slopes .entry)) 0 (gradientOf (now (weights .entry)) (givenKept (now (sizes .entry)) (now (codes .entry)) (now (limits .entry)) (now (goals .entry)) (now (xopt .entry)) (now («prev_state» .entry)) (now («prev_state2» .entry))) (floatsUsed (now (sizes .entry)) (now (floats .entry))) (now (block .entry)))) ⌝ }
-    ensures record { λ r. ⌜ (now («record_joints» .exit) ≡ ifTaken (numberOf r) (now («record_joints» .entry)) (splice (now («record_joints» .entry)) 0 (recordJoints (linksUsed (now (sizes .entry))) (codesUsed (now (sizes .entry)) (now (codes .entry))))))
-        × (now («record_links» .exit) ≡ ifTaken (numberOf r) (now («record_links» .entry)) (splice (now («record_links» .entry)) 0 (recordLinks (linksUsed (now (sizes .entry))) (codesUsed (now (sizes .entry)) (now (codes .entry))))))
-        × (now («record_poses» .exit) ≡ ifTaken (numberOf r) (now («record_poses» .entry)) (splice (now («record_poses» .entry)) 0 (recordPoses (linksUsed (now (sizes .entry))) (codesUsed (now (sizes .entry)) (now (codes .entry))) (floatsUsed (now (sizes .entry)) (now (floats .entry))) (now (block .entry))))) ⌝ }
+    requires { ⌜ Arrays (now sizes) (now codes) (now floats) (now task) ⌝ }
+    ensures number { λ r. ⌜ numberOf r ≡ oneBlockKept (lent sizes) (lent codes) «has_goals» started (lent block) (length (lent slopes)) (length (lent «record_joints»)) (length (lent «record_links»)) (length (lent «record_poses»)) ⌝ }
+    ensures value { λ r. ⌜ (answerValue r ≡ valueIf (numberOf r) (valueKept (lent sizes) (lent codes) (lent floats) (lent task) (lent block))) × (r ≡ answerOf (numberOf r) (answerValue r)) ⌝ }
+    ensures block { λ _. ⌜ now (block .exit) ≡ lent block ⌝ }
+    ensures slopes { λ r. ⌜ FrontIfTaken (numberOf r) slopes (gradientOf (givenKept (lent sizes) (lent codes) (lent task)) (floatsUsed (lent sizes) (lent floats)) (lent block)) ⌝ }
+    ensures record { λ r. ⌜ RecordKept (numberOf r) «record_joints» «record_links» «record_poses» (lent sizes) (lent codes) (lent floats) (lent block) ⌝ }
 {
     let n = state::in_use(sizes, codes);
-    let number = aim::aim_refusal(n.loaded, has_goals, started);
+    let number = stored_task::aim_refusal(n.loaded, has_goals, started);
     if number != 0 {
         return Answer::Refused(number);
     }
@@ -54,15 +45,10 @@ fn gradient_one_block_on(
     let links = n.links;
     let wide = 7 * links;
     slopes::gradient_one_block(
-        weights,
         &sizes[1..end],
         &codes[..links],
         &floats[..wide],
-        limits,
-        goals,
-        xopt,
-        prev_state,
-        prev_state2,
+        task,
         block,
         slopes,
         record_joints,
@@ -80,13 +66,13 @@ pub fn gradient_one_block(
     record_links: &mut [u16],
     record_poses: &mut [f64],
 ) -> Answer
-    ensures number { λ r. ⌜ numberOf r ≡ oneBlockNumberOf state (now (block .entry)) (length (now (slopes .entry))) (length (now («record_joints» .entry))) (length (now («record_links» .entry))) (length (now («record_poses» .entry))) ⌝ }
-    ensures value { λ r. ⌜ (answerValue r ≡ valueIf (numberOf r) (objectiveValueOf state (now (block .entry)))) × (r ≡ answerOf (numberOf r) (answerValue r)) ⌝ }
-    ensures block { λ _. ⌜ now (block .exit) ≡ now (block .entry) ⌝ }
-    ensures slopes { λ r. ⌜ now (slopes .exit) ≡ ifTaken (numberOf r) (now (slopes .entry)) (splice (now (slopes .entry)) 0 (gradientSlopesOf state (now (block .entry)))) ⌝ }
-    ensures record { λ r. ⌜ (now («record_joints» .exit) ≡ ifTaken (numberOf r) (now («record_joints» .entry)) (splice (now («record_joints» .entry)) 0 (recordJointsOf state)))
-        × (now («record_links» .exit) ≡ ifTaken (numberOf r) (now («record_links» .entry)) (splice (now («record_links» .entry)) 0 (recordLinksOf state)))
-        × (now («record_poses» .exit) ≡ ifTaken (numberOf r) (now («record_poses» .entry)) (splice (now («record_poses» .entry)) 0 (recordPosesOf state (now (block .entry))))) ⌝ }
+    ensures number { λ r. ⌜ numberOf r ≡ oneBlockNumberOf state (lent block) (length (lent slopes)) (length (lent «record_joints»)) (length (lent «record_links»)) (length (lent «record_poses»)) ⌝ }
+    ensures value { λ r. ⌜ (answerValue r ≡ valueIf (numberOf r) (objectiveValueOf state (lent block))) × (r ≡ answerOf (numberOf r) (answerValue r)) ⌝ }
+    ensures block { λ _. ⌜ now (block .exit) ≡ lent block ⌝ }
+    ensures slopes { λ r. ⌜ FrontIfTaken (numberOf r) slopes (gradientSlopesOf state (lent block)) ⌝ }
+    ensures record { λ r. ⌜ FrontIfTaken (numberOf r) «record_joints» (recordJointsOf state)
+        × FrontIfTaken (numberOf r) «record_links» (recordLinksOf state)
+        × FrontIfTaken (numberOf r) «record_poses» (recordPosesOf state (lent block)) ⌝ }
 {
     let arms = state.arms;
     let sizes = arms.sizes;
@@ -94,22 +80,13 @@ pub fn gradient_one_block(
     let floats = arms.floats;
     let limits = arms.limits;
     let party = state.party;
-    let goals = party.goals;
-    let history = party.history;
-    let xopt = history.xopt;
-    let prev_state = history.prev_state;
-    let prev_state2 = history.prev_state2;
-    let priors = weights::weight_priors();
+    let mut task = [0.0; task::LENGTH];
+    stored_task::lay_task(&limits, party, &mut task);
     gradient_one_block_on(
-        &priors,
         &sizes,
         &codes,
         &floats,
-        &limits,
-        &goals,
-        &xopt,
-        &prev_state,
-        &prev_state2,
+        &task,
         party.has_goals,
         party.started,
         block,

@@ -1,8 +1,8 @@
 // Calls that set what a party keeps over the arms: goals, start, history.
-use crate::kept;
 use crate::state::Outcome;
 use crate::state::Party;
 use crate::state::State;
+use crate::stored_sheet;
 use groove::vars;
 ghost use mathlib.Core.Path.{_≡_};
 ghost use Rattle.relaxed_ik.specs.Party.{setGoalsOf, resetStateOf, updateStateOf};
@@ -14,7 +14,7 @@ pub fn set_goals(state: State, goals: &[f64]) -> Outcome
     let arms = state.arms;
     let sizes = arms.sizes;
     let codes = arms.codes;
-    let number = kept::goals_on(&sizes, &codes, goals);
+    let number = stored_sheet::goals_on(&sizes, &codes, goals);
     if number != 0 {
         return Outcome {
             number: number,
@@ -52,7 +52,7 @@ pub fn reset(state: State, joints: &[f64]) -> Outcome
     let codes = arms.codes;
     let floats = arms.floats;
     let mut ends = [0.0; 28];
-    let number = kept::pose_on(&sizes, &codes, &floats, joints, &mut ends);
+    let number = stored_sheet::pose_on(&sizes, &codes, &floats, joints, &mut ends);
     if number != 0 {
         return Outcome {
             number: number,
@@ -87,7 +87,7 @@ pub fn update(state: State, joints: &[f64]) -> Outcome
     let sizes = arms.sizes;
     let codes = arms.codes;
     let old = state.party;
-    let number = kept::update_on(&sizes, &codes, old.started, joints);
+    let number = stored_sheet::update_on(&sizes, &codes, old.started, joints);
     if number != 0 {
         return Outcome {
             number: number,

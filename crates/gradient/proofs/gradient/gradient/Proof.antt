@@ -6,8 +6,8 @@ use denote.Ref.{now}
 use lib.Ieee.{Float}
 use lib.ListN.{length, take}
 use Rattle.lists.specs.Splice.{splice}
-use Rattle.objective_master.specs.Losses.{Given, given}
-use Rattle.gradient.specs.Gradient.{valueAt, gradientOf}
+use Rattle.task.specs.Task.{Given, givenOf}
+use Rattle.gradient.specs.Gradient.{valueAt, slopesOf}
 use Rattle.gradient.specs.Ready.{Ready}
 use Rattle.gradient.specs.Made.{copied-front, front-kept}
 use borrow.Author.Needs.{needs}
@@ -24,21 +24,23 @@ slice-relend-prefix-gradient-on c = search needs
 
 slice-aggregate-gradient-on : tie.Need-slice-aggregate-gradient-on
 slice-aggregate-gradient-on c =
-    let a = c .before .before .before .before .before .before .before .before .before .before .before .before .before .before .before .before .before .args in
+    let a = c .before .before .before .before .before .before .before .before .before .before .before .before .args in
     let f = c .before .before .before .copy-floats in
     sym (ap length (copied-front (now (a .scratch)) (now (a .joints)) (f .last .1 .0) (f .ensures)))
 
 gradient-on-requires : tie.Need-gradient-on-requires
 gradient-on-requires c κs =
-    let s = c .before .before .before .before .before .before .before .before .before .before .before .before .before .before .before .before .before .before in
+    let s = c .before .before .before .before .before .before .before .before .before .before .before .before .before in
     let a = s .args in
-    let G : Given = given (now (a .sizes)) (now (a .codes)) (now (a .limits)) (now (a .goals)) (now (a .xopt)) (now (a .prev-state)) (now (a .prev-state2)) in
-    let gs = now (a .geo) in
+    let ns = now (a .sizes) in
+    let cs = now (a .codes) in
+    let T = now (a .task) in
+    let gs = now (a .floats) in
     let x = now (a .joints) in
     let f = c .before .before .before .before .copy-floats in
     let e : take (length x) (f .last .1 .0) ≡ x = copied-front (now (a .scratch)) x (f .last .1 .0) (f .ensures) in
     let n : length (take (length x) (f .last .1 .0)) ≡ length x = ap length e in
-    (subst (λ (y : List Float). Ready G gs y) (sym e) (s .pre .0), s .pre .1, omega (arith, n, s .pre .3))
+    (subst (λ (y : List Float). Ready ns cs T gs y) (sym e) (s .pre .0), omega (arith, n, s .pre .2))
 
 same-length : tie.Need-same-length
 same-length c = search needs
@@ -48,19 +50,21 @@ same-length-2 c = search needs
 
 returns : tie.Need-returns
 returns c =
-    let s = c .before .before .before .before .before .before .before .before .before .before .before .before .before .before .before .before .before .before .before .before .before .before .before in
+    let s = c .before .before .before .before .before .before .before .before .before .before .before .before .before .before .before .before .before .before in
     let a = s .args in
-    let G : Given = given (now (a .sizes)) (now (a .codes)) (now (a .limits)) (now (a .goals)) (now (a .xopt)) (now (a .prev-state)) (now (a .prev-state2)) in
-    let gs = now (a .geo) in
+    let ns = now (a .sizes) in
+    let cs = now (a .codes) in
+    let T = now (a .task) in
+    let gs = now (a .floats) in
     let x = now (a .joints) in
-    let ws = now (a .weights) in
+    let G : Given = givenOf ns cs T in
     let f = c .before .before .before .before .before .before .before .before .before .copy-floats in
     let t = c .before .before .before .before .gradient-on in
     let e : take (length x) (f .last .1 .0) ≡ x = copied-front (now (a .scratch)) x (f .last .1 .0) (f .ensures) in (
-      t .ensures .0 ∙ ap (valueAt ws G gs) e,
+      t .ensures .0 ∙ ap (valueAt G gs) e,
       (
-        t .ensures .1 .0 ∙ ap (λ (y : List Float). splice (now (a .slopes)) 0 (gradientOf ws G gs y)) e,
-        front-kept (now (a .scratch)) x (f .last .1 .0) (t .last .1 .1 .1 .1 .1 .1 .1 .1 .1 .0) (f .ensures) (t .ensures .1 .1),
+        t .ensures .1 .0 ∙ ap (λ (y : List Float). splice (now (a .slopes)) 0 (slopesOf (a .rule) G gs y)) e,
+        front-kept (now (a .scratch)) x (f .last .1 .0) (t .last .1 .1 .1 .1 .1 .0) (f .ensures) (t .ensures .1 .1),
       ),
     )
 

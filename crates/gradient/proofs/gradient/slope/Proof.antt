@@ -1,28 +1,32 @@
 -- `slope` meets its contract: the losses of the raised block, and the old value put back.
-use mathlib.Core.Path.{_≡_, sym, ap, _∙_}
+use mathlib.Core.Path.{_≡_, ap, _∙_}
 use mathlib.Core.List.{List}
-use Prim.Native.Nat.{_+_, _*_, _≤_}
 use native.Mathlib.Omega.{arith}
 use denote.Ref.{now}
-use lib.Ieee.{Float, nan}
-use lib.ListN.{length, getD, set}
-use Rattle.self_collision.specs.Pairs.{chainLengths, lengths-count}
-use Rattle.objective_master.specs.Losses.{Given, given, objectivesOf}
-use Rattle.gradient.specs.Slopes.{step}
-use Rattle.gradient.specs.Gradient.{raisedBy}
-use Rattle.gradient.specs.Ready.{ready-other, joints-are, count-least}
-use Rattle.gradient.specs.Made.{raised-length, put-back, slope-is, losses-front}
+use lib.Ieee.{Float}
+use lib.ListN.{length}
+use Rattle.lists.specs.Splice.{splice}
+use Rattle.task.specs.Task.{Given, givenOf}
+use Rattle.gradient.specs.Slopes.{stepOf, slopeBy}
+use Rattle.gradient.specs.Gradient.{lossesAt, raisedBy}
+use Rattle.gradient.specs.Ready.{ready-other}
+use Rattle.gradient.specs.Made.{raised-length, put-back, losses-front, as-many, slope-made}
 use borrow.Author.Needs.{needs}
 use Rattle.gradient.proofs.gradient.slope.Statement.{statement}
 use Rattle.gradient.proofs.gradient.slope.Tie as tie
-use Rattle.gradient.proofs.slopes.weighted_slope.Reads as weighted-slope-reads
+use Rattle.gradient.proofs.slopes.slope.Reads as slope-reads
+use Rattle.gradient.proofs.slopes.step.Reads as step-reads
 use Rattle.gradient.proofs.value.losses_of.Reads as losses-of-reads
+use Rattle.task.proofs.parts.weights.Reads as weights-reads
 
 mul-old : tie.Need-mul-old
 mul-old c = search needs
 
 slice-read-old : tie.Need-slice-read-old
 slice-read-old c = search needs
+
+step-requires : tie.Need-step-requires
+step-requires c κs = search needs
 
 mul-scratch : tie.Need-mul-scratch
 mul-scratch c = search needs
@@ -33,33 +37,28 @@ slice-write-scratch c = search needs
 losses-of-requires : tie.Need-losses-of-requires
 unfolding raisedBy
 losses-of-requires c κs =
-    let s = c .before .before .before .before .before .before .before .before .before .before .before .before .before .before .before .before .before in
+    let s = c .before .before .before .before .before .before .before .before .before .before .before .before .before .before in
     let a = s .args in
-    let G : Given = given (now (a .sizes)) (now (a .codes)) (now (a .limits)) (now (a .goals)) (now (a .xopt)) (now (a .prev-state)) (now (a .prev-state2)) in
-    let x = now (a .scratch) in (
-      ready-other G (now (a .geo)) x (raisedBy step x (a .j)) (raised-length step x (a .j)) (s .pre .0 .0),
-      (s .pre .1 .1 .0, omega (arith, s .pre .1)),
-    )
+    let ns = now (a .sizes) in
+    let cs = now (a .codes) in
+    let T = now (a .task) in
+    let gs = now (a .floats) in
+    let x = now (a .scratch) in
+    let h = c .before .before .before .step .result in
+    let k = s .pre .1 in
+    (ready-other ns cs T gs x (raisedBy h x (a .asked .joint)) (raised-length h x (a .asked .joint)) (s .pre .0 .0), (k .poses, omega (arith, ap length (k .kinds), k .again)))
 
 mul-scratch-2 : tie.Need-mul-scratch-2
-mul-scratch-2 c = omega (arith, c .before .before .before .before .before .before .before .before .before .before .before .before .before .before .before .before .before .before .before .before .before .before)
+mul-scratch-2 c = search needs
 
 slice-write-scratch-2 : tie.Need-slice-write-scratch-2
 slice-write-scratch-2 c = search needs
 
-weighted-slope-requires : tie.Need-weighted-slope-requires
-unfolding raisedBy
-weighted-slope-requires c κs =
-    let s = c .before .before .before .before .before .before .before .before .before .before .before .before .before .before .before .before .before .before .before .before .before .before .before in
-    let a = s .args in
-    let G : Given = given (now (a .sizes)) (now (a .codes)) (now (a .limits)) (now (a .goals)) (now (a .xopt)) (now (a .prev-state)) (now (a .prev-state2)) in
-    let x = now (a .scratch) in
-    let y : List Float = set (raisedBy step x (a .j)) (a .j) (getD x (a .j) nan) in
-    let e : length y ≡ length x = ap length (put-back step x (a .j)) in
-    let n : a .n ≡ length (objectivesOf G) = s .pre .1 .0 .0 in
-    let k : 6 * length (now (a .sizes)) + length x + 4 ≤ length (objectivesOf G) = count-least G (now (a .geo)) x (s .pre .0 .0) in
-    let least : 6 * length (now (a .sizes)) + length y + 4 ≤ a .n = omega (arith, e, n, k) in
-    (s .pre .0 .1, least, s .pre .1 .1 .1, omega (arith, s .pre, c .before .before .before .before .before .losses-of .kept .1 .1 .1 .1 .1 .1 .1 .1 .1 .1 .0))
+weights-requires : tie.Need-weights-requires
+weights-requires c κs = search needs
+
+slope-requires : tie.Need-slope-requires
+slope-requires c κs = search needs
 
 same-length : tie.Need-same-length
 same-length c = search needs
@@ -71,19 +70,28 @@ same-length-3 : tie.Need-same-length-3
 same-length-3 c = search needs
 
 returns : tie.Need-returns
-unfolding raisedBy
+unfolding raisedBy givenOf
 returns c =
-    let s = c .before .before .before .before .before .before .before .before .before .before .before .before .before .before .before .before .before .before .before .before .before .before .before .before .before .before in
+    let s = c .before .before .before .before .before .before .before .before .before .before .before .before .before .before .before .before .before .before .before .before .before .before .before .before in
     let a = s .args in
-    let G : Given = given (now (a .sizes)) (now (a .codes)) (now (a .limits)) (now (a .goals)) (now (a .xopt)) (now (a .prev-state)) (now (a .prev-state2)) in
-    let gs = now (a .geo) in
+    let ns = now (a .sizes) in
+    let cs = now (a .codes) in
+    let T = now (a .task) in
+    let gs = now (a .floats) in
     let x = now (a .scratch) in
-    let f = c .before .before .before .before .before .before .before .before .losses-of in
-    let n = s .pre .1 .0 .0 in
-    let r = s .pre .0 .0 in (
-      c .before .before .weighted-slope .ensures .0 (chainLengths (now (a .sizes)) (now (a .codes))) (sym (lengths-count (now (a .sizes)) (now (a .codes)))) (ap length (put-back step x (a .j)) ∙ joints-are G gs x r) n
-          ∙ slope-is (now (a .weights)) G gs x (now (a .f-0s)) (f .last .1 .1 .1 .1 .1 .1 .1 .1 .1 .1 .0) (a .n) (a .j) n (s .pre .1 .0 .1) (losses-front G gs (raisedBy step x (a .j)) (now (a .f-hs)) (f .last .1 .1 .1 .1 .1 .1 .1 .1 .1 .1 .0) (a .n) n (f .ensures)),
-      put-back step x (a .j),
+    let G : Given = givenOf ns cs T in
+    let j = a .asked .joint in
+    let R = a .asked .rule in
+    let h = c .before .before .before .before .before .before .before .before .before .before .before .before .before .step in
+    let f = c .before .before .before .before .before .before .before .before .before .losses-of in
+    let k = s .pre .1 in
+    let hs = f .last .1 .1 .1 .1 .1 .1 .0 in
+    let ks = now (a .kinds) in
+    let n = as-many G gs x ks (k .kinds) in
+    let at : hs ≡ splice (now (a .f-hs)) 0 (lossesAt G gs (raisedBy (stepOf R) x j)) = f .ensures ∙ ap (λ (v : Float). splice (now (a .f-hs)) 0 (lossesAt G gs (raisedBy v x j))) (h .ensures) in (
+      c .before .before .slope .ensures ∙ ap (λ (ws : List Float). slopeBy R ws ks (a .asked .«f_0») (now (a .f-0s)) hs) (c .before .before .before .before .weights .ensures .0)
+          ∙ slope-made G gs x ks (k .kinds) R j (a .asked .«f_0») (now (a .f-0s)) hs (k .value) (k .losses) (omega (arith, k .again, f .kept .1 .1 .1 .1 .1 .1 .0)) (losses-front G gs (raisedBy (stepOf R) x j) (now (a .f-hs)) hs (length ks) n at),
+      put-back (h .result) x j,
     )
 
 pub slope-spec : {M : Type 1} → statement M
@@ -92,12 +100,14 @@ slope-spec =
     (tie.spec
     mul-old
     slice-read-old
+    step-requires
     mul-scratch
     slice-write-scratch
     losses-of-requires
     mul-scratch-2
     slice-write-scratch-2
-    weighted-slope-requires
+    weights-requires
+    slope-requires
     same-length
     same-length-2
     same-length-3

@@ -5,7 +5,6 @@ use denote.Ref.{now}
 use lib.ListN.{length}
 use Rattle.lists.specs.Splice.{splice}
 use Rattle.manipulability.specs.View.{viewOf}
-use Rattle.objective_master.specs.Losses.{Given, given}
 use Rattle.gradient.specs.Ready.{lent-whole, standing-whole, losses-walked}
 use borrow.Author.Needs.{needs}
 use Rattle.gradient.proofs.value.losses_of.Statement.{statement}
@@ -19,12 +18,16 @@ get-frames-immutable-requires c κs = search needs
 put-losses-requires : tie.Need-put-losses-requires
 put-losses-requires c κs =
     let f = c .before .before .before .before .get-frames-immutable in
-    let s = c .before .before .before .before .before .before .before .before .before .before .before .before .before .before .before .before .before in
+    let s = c .before .before .before .before .before .before .before .before .before .before .before .before .before in
     let a = s .args in
-    let G : Given = given (now (a .sizes)) (now (a .codes)) (now (a .limits)) (now (a .goals)) (now (a .xopt)) (now (a .prev-state)) (now (a .prev-state2)) in
+    let ns = now (a .sizes) in
+    let cs = now (a .codes) in
+    let T = now (a .task) in
+    let gs = now (a .floats) in
+    let x = now (a .x) in
     let ps = f .last .1 .1 .1 .1 .0 in (
-      lent-whole G (now (a .geo)) (now (a .x)) (s .pre .0) ps (omega (arith, s .pre .1, f .kept .1 .1 .1 .1 .0)),
-      standing-whole G (now (a .geo)) (now (a .x)) (s .pre .0) (viewOf ps ps 0 (length (now (a .codes)))) (now (a .out)) (s .pre .1 .1),
+      lent-whole ns cs T gs x (s .pre .0) ps (omega (arith, s .pre .1, f .kept .1 .1 .1 .1 .0)),
+      standing-whole ns cs T gs x (s .pre .0) (viewOf ps ps 0 (length cs)) (now (a .out)) (s .pre .1 .1),
     )
 
 same-length : tie.Need-same-length
@@ -36,11 +39,15 @@ same-length-2 c = search needs
 returns : tie.Need-returns
 returns c =
     let f = c .before .before .before .before .before .before .before .get-frames-immutable in
-    let s = c .before .before .before .before .before .before .before .before .before .before .before .before .before .before .before .before .before .before .before .before in
+    let s = c .before .before .before .before .before .before .before .before .before .before .before .before .before .before .before .before in
     let a = s .args in
-    let G : Given = given (now (a .sizes)) (now (a .codes)) (now (a .limits)) (now (a .goals)) (now (a .xopt)) (now (a .prev-state)) (now (a .prev-state2)) in
+    let ns = now (a .sizes) in
+    let cs = now (a .codes) in
+    let T = now (a .task) in
+    let gs = now (a .floats) in
+    let x = now (a .x) in
     c .before .before .put-losses .ensures
-    ∙ ap (splice (now (a .out)) 0) (losses-walked G (now (a .geo)) (now (a .x)) (s .pre .0) (now (a .poses)) (f .last .1 .1 .1 .1 .0) (s .pre .1 .0) (f .ensures))
+    ∙ ap (splice (now (a .out)) 0) (losses-walked ns cs T gs x (s .pre .0) (now (a .poses)) (f .last .1 .1 .1 .1 .0) (s .pre .1 .0) (f .ensures))
 
 pub losses-of-spec : {M : Type 1} → statement M
 losses-of-spec =

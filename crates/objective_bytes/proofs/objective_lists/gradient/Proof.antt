@@ -9,7 +9,7 @@ use Rattle.lists.specs.Splice.{splice}
 use Rattle.calls.specs.Arms.{taken, refused}
 use Rattle.lent_bytes.specs.Lent.{front, bytesOf}
 use Rattle.lent_bytes.specs.SheetLists.{SheetLists, sheetWith}
-use Rattle.objective_bytes.specs.ObjectiveLaws.{Fitted, slopes-fitted, gradient-slopes-length}
+use Rattle.objective_bytes.specs.ObjectiveLaws.{Fitted, slopes-fitted, slopes-in-length}
 use borrow.Author.Needs.{needs}
 use Rattle.objective_bytes.proofs.objective_lists.gradient.Statement.{statement}
 use Rattle.objective_bytes.proofs.objective_lists.gradient.Tie as tie
@@ -32,14 +32,14 @@ returns c =
     let n = c .before .slopes-number .result in
     (c .before .slopes-number .ensures, (sym (refused n _ _ (c .if1 .taken)), (sym (refused n _ _ (c .if1 .taken)), sym (refused n _ _ (c .if1 .taken)))))
 
-slice-aggregate-gradient-on : tie.Need-slice-aggregate-gradient-on
-slice-aggregate-gradient-on c = search needs
+slice-aggregate-slopes-on : tie.Need-slice-aggregate-slopes-on
+slice-aggregate-slopes-on c = search needs
 
-slice-aggregate-gradient-on-2 : tie.Need-slice-aggregate-gradient-on-2
-slice-aggregate-gradient-on-2 c = search needs
+slice-aggregate-slopes-on-2 : tie.Need-slice-aggregate-slopes-on-2
+slice-aggregate-slopes-on-2 c = search needs
 
-gradient-on-requires : tie.Need-gradient-on-requires
-gradient-on-requires c κs = (fitted (c .before .before) .aimed, refl, refl)
+slopes-on-requires : tie.Need-slopes-on-requires
+slopes-on-requires c κs = (fitted (c .before .before) .aimed, refl, refl)
 
 slice-aggregate-put-answers : tie.Need-slice-aggregate-put-answers
 slice-aggregate-put-answers c = search needs
@@ -50,8 +50,8 @@ slice-aggregate-put-answers-2 c = search needs
 put-answers-requires : tie.Need-put-answers-requires
 put-answers-requires c κs =
     let t = fitted (c .before .before .before .before .before .before .before .before .before .before) in
-    let g = c .before .before .before .before .before .before .before .gradient-on in
-    ((omega (arith, t .few, g .kept .1 .1 .1 .1 .1 .1 .1 .0), omega (arith, t .few, g .kept .1 .1 .1 .1 .1 .1 .1 .1 .0)), (t .scratch, t .value, t .slopes))
+    let g = c .before .before .before .before .before .before .before .slopes-on in
+    ((omega (arith, t .few, g .kept .1 .1 .1 .1 .1 .1 .1 .1 .0), omega (arith, t .few, g .kept .1 .1 .1 .1 .1 .1 .1 .1 .1 .0)), (t .scratch, t .value, t .slopes))
 
 same-length : tie.Need-same-length
 same-length c = search needs
@@ -67,9 +67,9 @@ returns-2 c =
     let e = c .before .before .before .before .before .before .before .before .before .before .before .before .before .before .before .before .before in
     let a = S e .args in
     let x = now (a .joints) in
-    let g = c .before .before .before .before .before .before .before .before .before .before .before .before .before .before .gradient-on .ensures in
+    let g = c .before .before .before .before .before .before .before .before .before .before .before .before .before .before .slopes-on .ensures in
     let p = c .before .before .before .before .before .before .put-answers .ensures in
-    let l = gradient-slopes-length (sheet (S e)) (now (a .goals)) (now (a .history)) x in (
+    let l = slopes-in-length (a .rule) (sheet (S e)) (now (a .goals)) (now (a .history)) x in (
       sym (sym (e .before .slopes-number .ensures) ∙ e .if1 .left),
       (
         p .0 ∙ ap (λ (y : List Float). splice (now (a .scratch)) 0 (bytesOf y)) (front _ _ x (length x) (g .1 .1) refl) ∙ sym (taken 0 _ _ refl),
@@ -86,9 +86,9 @@ gradient-spec =
     (tie.spec
     slopes-number-requires
     returns
-    slice-aggregate-gradient-on
-    slice-aggregate-gradient-on-2
-    gradient-on-requires
+    slice-aggregate-slopes-on
+    slice-aggregate-slopes-on-2
+    slopes-on-requires
     slice-aggregate-put-answers
     slice-aggregate-put-answers-2
     put-answers-requires

@@ -1,20 +1,19 @@
 -- `value_on` meets its contract: the objective of what the history and the sheet give.
-use mathlib.Core.Path.{_≡_, sym, ap, _∙_, subst}
+use mathlib.Core.Path.{refl, ap, _∙_}
 use mathlib.Core.List.{List}
-use Prim.Native.Nat.{ℕ, _*_}
 use native.Mathlib.Omega.{arith}
 use denote.Ref.{now}
 use lib.Ieee.{Float}
-use lib.ListN.{length}
-use Rattle.objective_master.specs.Losses.{given}
 use Rattle.gradient.specs.Gradient.{valueAt}
-use Rattle.gradient.specs.Ready.{Ready}
-use Rattle.lent_bytes.specs.SheetLists.{SheetLists, sheetWith, same-two}
-use Rattle.objective_bytes.specs.ObjectiveCalls.{blockFrom, givenIn, valueIn}
-use Rattle.objective_bytes.specs.ObjectiveLaws.{Taken, aimed-taken, eight-weights, same-given}
+use Rattle.lent_bytes.specs.SheetLists.{SheetLists, sheetWith}
+use Rattle.objective_bytes.specs.ObjectiveCalls.{valueIn}
+use Rattle.objective_bytes.specs.ObjectiveLaws.{Taken, aimed-taken, fit-taken, laid-taken, ready-taken}
 use borrow.Author.Needs.{needs}
 use Rattle.objective_bytes.proofs.objective_lists.value_on.Statement.{statement}
 use Rattle.objective_bytes.proofs.objective_lists.value_on.Tie as tie
+use Rattle.gradient.proofs.value.objective.Reads as objective-reads
+use Rattle.objective_bytes.proofs.objective_lists.lay_task.Reads as lay-task-reads
+use Rattle.refusals.proofs.shape.links.Reads as links-reads
 
 abbrev sheet : tie.Start → SheetLists
 sheet s = sheetWith (now (s .args .sizes)) (now (s .args .codes)) (now (s .args .floats)) (now (s .args .limits))
@@ -31,64 +30,39 @@ joints s = now (s .args .joints)
 known : (s : tie.Start) → Taken (sheet s) (goals s) (history s) (joints s)
 known s = aimed-taken (sheet s) (goals s) (history s) (joints s) (s .pre)
 
--- what the call below is given is what the definition says
-abbrev S : tie.After-block-from3 → tie.Start
-S c = c .before .before .before .before .before .before .before .before .before .before .before .before
-
-same : (c : tie.After-block-from3)
-    → given (now (c .before .before .before .links .result)) (now (S c .args .codes)) (now (S c .args .limits)) (goals (S c)) (now (c .before .before .block-from .result)) (now (c .before .block-from2 .result)) (now (c .block-from3 .result))
-    ≡ givenIn (sheet (S c)) (goals (S c)) (history (S c))
-same c =
-    let n = known (S c) .block in
-    same-given _ _ _ (c .before .before .before .links .ensures)
-    (c .before .before .block-from .ensures ∙ ap (λ (k : ℕ). blockFrom 0 k (history (S c))) n)
-    (c .before .block-from2 .ensures ∙ ap (λ (k : ℕ). blockFrom k k (history (S c))) n)
-    (c .block-from3 .ensures ∙ ap (λ (k : ℕ). blockFrom (2 * k) k (history (S c))) n)
-
-ready : (c : tie.After-block-from3)
-    → Ready (given (now (c .before .before .before .links .result)) (now (S c .args .codes)) (now (S c .args .limits)) (goals (S c)) (now (c .before .before .block-from .result)) (now (c .before .block-from2 .result)) (now (c .block-from3 .result))) (now (S c .args .floats)) (joints (S c))
-ready c = subst (λ g. Ready g (now (S c .args .floats)) (joints (S c))) (sym (same c)) (known (S c) .ready)
-
-weight-priors-requires : tie.Need-weight-priors-requires
-weight-priors-requires c κs = search needs
-
 links-requires : tie.Need-links-requires
 links-requires c κs = search needs
 
-block-from-requires : tie.Need-block-from-requires
-block-from-requires c κs = let t = known (c .before .before .before .before .before .before .before .before .before) in omega (arith, t .block, t .blocks)
+slice-aggregate-lay-task : tie.Need-slice-aggregate-lay-task
+slice-aggregate-lay-task c = search needs
 
-block-from-requires-2 : tie.Need-block-from-requires-2
-block-from-requires-2 c κs = let t = known (c .before .before .before .before .before .before .before .before .before .before) in omega (arith, t .block, t .blocks)
-
-mul-block-from : tie.Need-mul-block-from
-mul-block-from c = search needs
-
-block-from-requires-3 : tie.Need-block-from-requires-3
-block-from-requires-3 c κs = let t = known (c .before .before .before .before .before .before .before .before .before .before .before) in omega (arith, t .block, t .blocks)
+lay-task-requires : tie.Need-lay-task-requires
+lay-task-requires c κs =
+    let t = known (c .before .before .before .before .before .before .before .before .before) in
+    ((refl, omega (arith, t .block, t .few), omega (arith, t .block, t .blocks)), fit-taken _ _ _ _ t)
 
 slice-aggregate-objective : tie.Need-slice-aggregate-objective
 slice-aggregate-objective c = search needs
 
 objective-requires : tie.Need-objective-requires
-objective-requires c κs = (ready (c .before), ap length (c .before .before .before .before .before .weight-priors .ensures) ∙ eight-weights)
+objective-requires c κs =
+    let s = c .before .before .before .before .before .before .before .before .before .before .before .before in
+    ready-taken (sheet s) _ _ _ (known s) _ _ (c .before .before .before .before .links .ensures) (c .before .before .lay-task .kept .1 .1 .1 .1 .0)
 
 returns : tie.Need-returns
 unfolding valueIn
 returns c =
-    let s = c .before .before .before .before .before .before .before .before .before .before .before .before .before .before in
-    c .objective .ensures ∙ same-two (λ ws g. valueAt ws g (now (s .args .floats)) (joints s)) (c .before .before .before .before .before .before .weight-priors .ensures) (same (c .before .before))
+    let s = c .before .before .before .before .before .before .before .before .before .before .before .before .before in
+    c .objective .ensures
+    ∙ ap (λ g. valueAt g (now (s .args .floats)) (joints s)) (laid-taken (sheet s) _ _ _ (known s) _ _ _ (c .before .before .before .before .before .links .ensures) refl (c .before .before .before .lay-task .ensures))
 
 pub value-on-spec : {M : Type 1} → statement M
 value-on-spec =
     tie.close
     (tie.spec
-    weight-priors-requires
     links-requires
-    block-from-requires
-    block-from-requires-2
-    mul-block-from
-    block-from-requires-3
+    slice-aggregate-lay-task
+    lay-task-requires
     slice-aggregate-objective
     objective-requires
     returns)

@@ -12,7 +12,7 @@ use Rattle.objective_calls.proofs.slopes.gradient.Statement.{statement}
 use Rattle.objective_calls.proofs.slopes.gradient.Tie as tie
 
 abbrev S : tie.Else1 → tie.Start
-S c = c .before .before .before .before .before .before .before .before .before .before .before .before .before .before
+S c = c .before .before .before .before .before .before .before .before .before
 
 -- a number that is not 0 is a refusal, and only 0 goes on
 stopped : (c : tie.Then1) → c .before .slopes-refusal .result ≡ 0 → ⊥
@@ -39,7 +39,7 @@ gradient-requires c κs =
     let e = c .before .before in
     let s = S e in
     let p = slopes-passed _ _ _ _ (number e) in
-    (ready-of _ _ _ _ (s .pre) (p .0), s .pre .eight, p .1, p .2)
+    (ready-of _ _ _ _ _ (s .pre) (p .0), p .1, p .2)
 
 same-length : tie.Need-same-length
 same-length c = search needs

@@ -10,7 +10,7 @@ use Rattle.objective_calls.proofs.value.objective.Statement.{statement}
 use Rattle.objective_calls.proofs.value.objective.Tie as tie
 
 abbrev S : tie.Else1 → tie.Start
-S c = c .before .before .before .before .before .before .before .before .before .before .before .before
+S c = c .before .before .before .before .before .before .before
 
 passed : (c : tie.Else1) → blockRefusal (now (S c .args .codes)) (now (S c .args .block)) ≡ 0
 passed c = sym (c .before .block-refusal .ensures) ∙ c .if1 .left
@@ -25,8 +25,7 @@ returns c =
 
 objective-requires : tie.Need-objective-requires
 objective-requires c κs =
-    let s = S c in
-    (ready-of _ _ _ _ (s .pre) (passed c), s .pre .eight)
+    ready-of _ _ _ _ _ (S c .pre) (passed c)
 
 returns-2 : tie.Need-returns-2
 returns-2 c =

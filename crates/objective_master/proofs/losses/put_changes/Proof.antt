@@ -1,4 +1,4 @@
--- `put_changes` meets its contract.
+-- `put_changes` meets its contract: the three blocks are parts of the list.
 use mathlib.Core.Path.{ap, _∙_}
 use denote.Ref.{now}
 use Rattle.lists.specs.Splice.{splice}
@@ -12,6 +12,18 @@ use Rattle.groove.proofs.objective.minimize_acceleration.Reads as minimize-acce
 use Rattle.groove.proofs.objective.minimize_jerk.Reads as minimize-jerk-reads
 use Rattle.groove.proofs.objective.minimize_velocity.Reads as minimize-velocity-reads
 use Rattle.spacetime.proofs.floats.put_vec.Reads as put-vec-reads
+use Rattle.task.proofs.parts.prev_state.Reads as prev-state-reads
+use Rattle.task.proofs.parts.prev_state2.Reads as prev-state2-reads
+use Rattle.task.proofs.parts.xopt.Reads as xopt-reads
+
+xopt-requires : tie.Need-xopt-requires
+xopt-requires c κs = search needs
+
+prev-state-requires : tie.Need-prev-state-requires
+prev-state-requires c κs = search needs
+
+prev-state2-requires : tie.Need-prev-state2-requires
+prev-state2-requires c κs = search needs
 
 joint-changes-requires : tie.Need-joint-changes-requires
 joint-changes-requires c κs = search needs
@@ -34,16 +46,19 @@ same-length c = search needs
 returns : tie.Need-returns
 unfolding flatVec changeLosses
 returns c =
-    let p = c .before .before in
-    let a = c .before .before .before .before .before .before .before .before .before .before .before .before .before .args in
     let v = c .before .before .before .before .before .before .before in
-    p .put-vec .ensures
-    ∙ ap (splice (now (a .out)) (a .at)) (rw (c .before .before .before .before .minimize-jerk .ensures, c .before .before .before .before .before .minimize-acceleration .ensures, c .before .before .before .before .before .before .minimize-velocity .ensures, v .joint-changes .ensures))
+    let a = c .before .before .before .before .before .before .before .before .before .before .before .before .before .before .args in
+    c .before .before .put-vec .ensures
+    ∙ ap (splice (now (a .out)) (a .at))
+    (rw (c .before .before .before .before .minimize-jerk .ensures, c .before .before .before .before .before .minimize-acceleration .ensures, c .before .before .before .before .before .before .minimize-velocity .ensures, v .joint-changes .ensures, v .before .prev-state2 .ensures .0, v .before .before .prev-state .ensures .0, v .before .before .before .xopt .ensures .0))
 
 pub put-changes-spec : {M : Type 1} → statement M
 put-changes-spec =
     tie.close
     (tie.spec
+    xopt-requires
+    prev-state-requires
+    prev-state2-requires
     joint-changes-requires
     minimize-velocity-requires
     minimize-acceleration-requires

@@ -1,5 +1,5 @@
 -- `put_losses` meets its contract: section after section, each behind those before it.
-use mathlib.Core.Path.{refl, sym, ap, subst, _∙_}
+use mathlib.Core.Path.{_≡_, refl, sym, ap, subst, _∙_}
 use mathlib.Core.Bool.{Bool}
 use mathlib.Core.List.{List}
 use Prim.Native.Nat.{ℕ, _+_, _*_}
@@ -8,11 +8,13 @@ use denote.Ref.{now}
 use lib.Ieee.{Float}
 use lib.ListN.{length}
 use Rattle.lists.specs.Splice.{splice}
+use Rattle.lists.specs.Runs.{runs}
 use Rattle.geometry.specs.declared.pose.Pose.{Pose}
 use Rattle.manipulability.specs.View.{viewOf}
 use Rattle.self_collision.specs.Pairs.{Standing, allPairs, chainLengths, pairLoss, pairLosses}
-use Rattle.objective_master.specs.Losses.{Given, given}
-use Rattle.objective_master.specs.Standing.{goals-stand, limits-stand, pairs-stand, enough, length-one, behind-one, length-two, length-three, behind-three, losses-made}
+use Rattle.task.specs.Task.{Given, givenOf, limitsOf, xoptOf, prevStateOf, prevState2Of}
+use Rattle.objective_master.specs.Losses.{goalLosses, limitLosses, motionLosses}
+use Rattle.objective_master.specs.Standing.{Stands, endAgain, isRaised, goals-stand, limits-stand, pairs-stand, enough, length-one, behind-one, length-two, length-three, behind-three, losses-made}
 use borrow.Author.Needs.{needs}
 use Rattle.objective_master.proofs.losses.put_losses.Statement.{statement}
 use Rattle.objective_master.proofs.losses.put_losses.Tie as tie
@@ -21,126 +23,184 @@ use Rattle.objective_master.proofs.losses.put_goals.Reads as put-goals-
 use Rattle.objective_master.proofs.losses.put_limits.Reads as put-limits-reads
 use Rattle.objective_master.proofs.losses.put_motion.Reads as put-motion-reads
 use Rattle.self_collision.proofs.pairs.put_pairs.Reads as put-pairs-reads
+use Rattle.task.proofs.parts.goals.Reads as goals-reads
+use Rattle.task.proofs.parts.limits.Reads as limits-reads
+
+goals-requires : tie.Need-goals-requires
+goals-requires c κs = search needs
 
 put-goals-requires : tie.Need-put-goals-requires
+unfolding givenOf
 put-goals-requires c κs =
-    let s = c .before .before .before .before .before .before .before .before .before .before .before .before in
+    let s = c .before .before .before .before .before .before .before .before .before in
     let a = s .args in
-    let G : Given = given (now (a .sizes)) (now (a .codes)) (now (a .limits)) (now (a .goals)) (now (a .xopt)) (now (a .prev-state)) (now (a .prev-state2)) in
-    let P : ℕ → Pose = viewOf (now (a .base)) (now (a .tail)) (a .from) (a .to) in
+    let ns = now (a .sizes) in
+    let G : Given = givenOf ns (now (a .codes)) (now (a .task)) in
+    let W = a .walked in
+    let P : ℕ → Pose = viewOf (now (a .base)) (now (a .tail)) (W .from) (W .to) in
     let X = now (a .x) in
     let o = now (a .out) in
     let t = s .pre .0 in
     let k = s .pre .1 in
     let w = t .paired .counted .whole in
-    let v = t .values in
-    ((t .chains, t .each), (record { first = omega (arith, t .view .first, w); again = t .view .again }, goals-stand G P X (a .from) (a .to) (a .joint) o k w v))
+    let v = t .values in (
+      (t .chains, omega (arith, c .before .goals .ensures .1)),
+      (
+        record { first = omega (arith, t .view .first, w); again = t .view .again },
+        subst (λ (gs : List Float). Stands (goalLosses ns gs P) 6 (endAgain ns (W .from) (W .to)) 0 (length ns) o) (sym (c .before .goals .ensures .0)) (goals-stand G P X (W .from) (W .to) (W .joint) o k w v),
+      ),
+    )
 
 mul-n : tie.Need-mul-n
 mul-n c = search needs
 
+limits-requires : tie.Need-limits-requires
+limits-requires c κs = search needs
+
 put-limits-requires : tie.Need-put-limits-requires
+unfolding givenOf
 put-limits-requires c κs =
-    let s = c .before .before .before .before .before .before .before .before .before .before .before .before .before .before .before .before in
+    let s = c .before .before .before .before .before .before .before .before .before .before .before .before .before .before in
     let a = s .args in
-    let G : Given = given (now (a .sizes)) (now (a .codes)) (now (a .limits)) (now (a .goals)) (now (a .xopt)) (now (a .prev-state)) (now (a .prev-state2)) in
-    let P : ℕ → Pose = viewOf (now (a .base)) (now (a .tail)) (a .from) (a .to) in
+    let ns = now (a .sizes) in
+    let G : Given = givenOf ns (now (a .codes)) (now (a .task)) in
+    let W = a .walked in
+    let P : ℕ → Pose = viewOf (now (a .base)) (now (a .tail)) (W .from) (W .to) in
     let X = now (a .x) in
     let o = now (a .out) in
     let t = s .pre .0 in
     let k = s .pre .1 in
     let w = t .paired .counted .whole in
     let v = t .values in
-    let e₁ = c .before .before .before .put-goals .ensures in
-    (t .pairs, limits-stand G P X (a .from) (a .to) (a .joint) o k w v _ (length-one G P X o _ w v (k .room) e₁) (6 * length (now (a .sizes))) refl (behind-one G P X o _ w v (k .room) e₁))
+    let e₁ : c .before .before .before .before .put-goals .last .1 .1 .1 .1 .1 .1 .0 ≡ splice o 0 (runs (goalLosses ns (G .goals) P) 0 (length ns)) =
+    c .before .before .before .before .put-goals .ensures ∙ ap (λ (gs : List Float). splice o 0 (runs (goalLosses ns gs P) 0 (length ns))) (c .before .before .before .before .before .before .goals .ensures .0) in
+    let q : now (c .before .limits .result) ≡ G .limits = c .before .limits .ensures .0 ∙ ap (λ (m : ℕ). limitsOf m (now (a .task))) v in (
+      omega (arith, c .before .limits .ensures .1),
+      subst (λ (ls : List Float). Stands (limitLosses ls X) 1 (isRaised (W .joint)) (6 * length ns) (length X) (c .before .before .before .before .put-goals .last .1 .1 .1 .1 .1 .1 .0)) (sym q)
+          (limits-stand G P X (W .from) (W .to) (W .joint) o k w v _ (length-one G P X o _ w v (k .room) e₁) (6 * length ns) refl (behind-one G P X o _ w v (k .room) e₁)),
+    )
 
 add-m : tie.Need-add-m
 add-m c = search needs
 
 put-motion-requires : tie.Need-put-motion-requires
+unfolding givenOf
 put-motion-requires c κs =
-    let s = c .before .before .before .before .before .before .before .before .before .before .before .before .before .before .before .before .before .before .before .before in
+    let s = c .before .before .before .before .before .before .before .before .before .before .before .before .before .before .before .before .before .before in
     let a = s .args in
-    let G : Given = given (now (a .sizes)) (now (a .codes)) (now (a .limits)) (now (a .goals)) (now (a .xopt)) (now (a .prev-state)) (now (a .prev-state2)) in
-    let P : ℕ → Pose = viewOf (now (a .base)) (now (a .tail)) (a .from) (a .to) in
+    let ns = now (a .sizes) in
+    let G : Given = givenOf ns (now (a .codes)) (now (a .task)) in
+    let W = a .walked in
+    let P : ℕ → Pose = viewOf (now (a .base)) (now (a .tail)) (W .from) (W .to) in
     let X = now (a .x) in
     let o = now (a .out) in
     let t = s .pre .0 in
     let k = s .pre .1 in
     let w = t .paired .counted .whole in
     let v = t .values in
-    let e₁ = c .before .before .before .before .before .before .before .put-goals .ensures in
-    let e₂ = c .before .before .before .put-limits .ensures in
-    ((t .now₀, t .now₁, t .now₂, omega (arith, enough G P X o _ w v (k .room) e₁, length-two G P X o _ w v (k .room) e₁ _ _ refl e₂)), (t .paired .counted, t .view))
+    let e₁ : c .before .before .before .before .before .before .before .before .put-goals .last .1 .1 .1 .1 .1 .1 .0 ≡ splice o 0 (runs (goalLosses ns (G .goals) P) 0 (length ns)) =
+    c .before .before .before .before .before .before .before .before .put-goals .ensures ∙ ap (λ (gs : List Float). splice o 0 (runs (goalLosses ns gs P) 0 (length ns))) (c .before .before .before .before .before .before .before .before .before .before .goals .ensures .0) in
+    let o₁ : List Float = c .before .before .before .before .before .before .before .before .put-goals .last .1 .1 .1 .1 .1 .1 .0 in
+    let q : now (c .before .before .before .before .before .limits .result) ≡ G .limits = c .before .before .before .before .before .limits .ensures .0 ∙ ap (λ (m : ℕ). limitsOf m (now (a .task))) v in
+    let e₂ : c .before .before .before .put-limits .last .1 .1 .1 .1 .0 ≡ splice o₁ (6 * length ns) (runs (limitLosses (G .limits) X) 0 (length X)) =
+    c .before .before .before .put-limits .ensures ∙ ap (λ (ls : List Float). splice o₁ (6 * length ns) (runs (limitLosses ls X) 0 (length X))) q in
+    ((t .whole, omega (arith, v, t .paired .counted .few), omega (arith, enough G P X o _ w v (k .room) e₁, length-two G P X o _ w v (k .room) e₁ _ _ refl e₂)), (t .paired .counted, t .view))
 
 no-number-requires : tie.Need-no-number-requires
 no-number-requires c κs = search needs
 
 add-put-pairs : tie.Need-add-put-pairs
+unfolding givenOf
 add-put-pairs c =
-    let s = c .before .before .before .before .before .before .before .before .before .before .before .before .before .before .before .before .before .before .before .before .before .before .before .before in
+    let s = c .before .before .before .before .before .before .before .before .before .before .before .before .before .before .before .before .before .before .before .before .before .before in
     let a = s .args in
-    let G : Given = given (now (a .sizes)) (now (a .codes)) (now (a .limits)) (now (a .goals)) (now (a .xopt)) (now (a .prev-state)) (now (a .prev-state2)) in
-    let P : ℕ → Pose = viewOf (now (a .base)) (now (a .tail)) (a .from) (a .to) in
+    let ns = now (a .sizes) in
+    let G : Given = givenOf ns (now (a .codes)) (now (a .task)) in
+    let W = a .walked in
+    let P : ℕ → Pose = viewOf (now (a .base)) (now (a .tail)) (W .from) (W .to) in
     let X = now (a .x) in
     let o = now (a .out) in
     let t = s .pre .0 in
     let k = s .pre .1 in
     let w = t .paired .counted .whole in
     let v = t .values in
-    omega (arith, s .good, k .room, enough G P X o (c .before .before .before .before .before .before .before .before .before .before .before .put-goals .last .1 .1 .1 .1 .1 .1 .0) w v (k .room) (c .before .before .before .before .before .before .before .before .before .before .before .put-goals .ensures))
+    let e₁ : c .before .before .before .before .before .before .before .before .before .before .before .before .put-goals .last .1 .1 .1 .1 .1 .1 .0 ≡ splice o 0 (runs (goalLosses ns (G .goals) P) 0 (length ns)) =
+    c .before .before .before .before .before .before .before .before .before .before .before .before .put-goals .ensures ∙ ap (λ (gs : List Float). splice o 0 (runs (goalLosses ns gs P) 0 (length ns))) (c .before .before .before .before .before .before .before .before .before .before .before .before .before .before .goals .ensures .0) in
+    omega (arith, s .good, k .room, enough G P X o _ w v (k .room) e₁)
 
 put-pairs-requires : tie.Need-put-pairs-requires
+unfolding givenOf
 put-pairs-requires c κs =
-    let s = c .before .before .before .before .before .before .before .before .before .before .before .before .before .before .before .before .before .before .before .before .before .before .before .before .before in
+    let s = c .before .before .before .before .before .before .before .before .before .before .before .before .before .before .before .before .before .before .before .before .before .before .before in
     let a = s .args in
-    let G : Given = given (now (a .sizes)) (now (a .codes)) (now (a .limits)) (now (a .goals)) (now (a .xopt)) (now (a .prev-state)) (now (a .prev-state2)) in
-    let P : ℕ → Pose = viewOf (now (a .base)) (now (a .tail)) (a .from) (a .to) in
+    let ns = now (a .sizes) in
+    let G : Given = givenOf ns (now (a .codes)) (now (a .task)) in
+    let W = a .walked in
+    let P : ℕ → Pose = viewOf (now (a .base)) (now (a .tail)) (W .from) (W .to) in
     let X = now (a .x) in
     let o = now (a .out) in
     let t = s .pre .0 in
     let k = s .pre .1 in
     let w = t .paired .counted .whole in
     let v = t .values in
-    let e₁ = c .before .before .before .before .before .before .before .before .before .before .before .before .put-goals .ensures in
-    let e₂ = c .before .before .before .before .before .before .before .before .put-limits .ensures in
-    let m = c .before .before .before .before .put-motion in
-    let o₃ : List Float = m .last .1 .1 .1 .1 .1 .1 .1 .1 .1 .1 .1 .0 in
-    let at : ℕ = 6 * length (now (a .sizes)) + length X + 4 in (
+    let e₁ : c .before .before .before .before .before .before .before .before .before .before .before .before .before .put-goals .last .1 .1 .1 .1 .1 .1 .0 ≡ splice o 0 (runs (goalLosses ns (G .goals) P) 0 (length ns)) =
+    c .before .before .before .before .before .before .before .before .before .before .before .before .before .put-goals .ensures ∙ ap (λ (gs : List Float). splice o 0 (runs (goalLosses ns gs P) 0 (length ns))) (c .before .before .before .before .before .before .before .before .before .before .before .before .before .before .before .goals .ensures .0) in
+    let o₁ : List Float = c .before .before .before .before .before .before .before .before .before .before .before .before .before .put-goals .last .1 .1 .1 .1 .1 .1 .0 in
+    let q : now (c .before .before .before .before .before .before .before .before .before .before .limits .result) ≡ G .limits = c .before .before .before .before .before .before .before .before .before .before .limits .ensures .0 ∙ ap (λ (m : ℕ). limitsOf m (now (a .task))) v in
+    let e₂ : c .before .before .before .before .before .before .before .before .put-limits .last .1 .1 .1 .1 .0 ≡ splice o₁ (6 * length ns) (runs (limitLosses (G .limits) X) 0 (length X)) =
+    c .before .before .before .before .before .before .before .before .put-limits .ensures ∙ ap (λ (ls : List Float). splice o₁ (6 * length ns) (runs (limitLosses ls X) 0 (length X))) q in
+    let o₂ : List Float = c .before .before .before .before .before .before .before .before .put-limits .last .1 .1 .1 .1 .0 in
+    let e₃ : c .before .before .before .before .put-motion .last .1 .1 .1 .1 .1 .1 .1 .1 .0 ≡ splice o₂ (6 * length ns + length X) (motionLosses P ns (now (a .codes)) X (G .xopt) (G .«prev_state») (G .«prev_state2»)) =
+    c .before .before .before .before .put-motion .ensures
+    ∙ ap (λ (m : ℕ). splice o₂ (6 * length ns + length X) (motionLosses P ns (now (a .codes)) X (xoptOf m (now (a .task))) (prevStateOf m (now (a .task))) (prevState2Of m (now (a .task))))) v in
+    let o₃ : List Float = c .before .before .before .before .put-motion .last .1 .1 .1 .1 .1 .1 .1 .1 .0 in
+    let at : ℕ = 6 * length ns + length X + 4 in (
       (t .paired, t .view),
-      subst (λ (b : Bool). Standing (pairLoss (now (a .sizes)) P 0 b) (a .from) at (allPairs (chainLengths (now (a .sizes)) (now (a .codes)))) o₃) (sym (c .before .no-number .ensures))
-          (pairs-stand G P X (a .from) (a .to) (a .joint) o k w v _ (length-three G P X o _ w v (k .room) e₁ _ _ refl e₂ _ _ refl (m .ensures)) at refl (behind-three G P X o _ w v (k .room) e₁ _ _ refl e₂ _ _ refl (m .ensures))),
+      subst (λ (b : Bool). Standing (pairLoss ns P 0 b) (W .from) at (allPairs (chainLengths ns (now (a .codes)))) o₃) (sym (c .before .no-number .ensures))
+          (pairs-stand G P X (W .from) (W .to) (W .joint) o k w v _ (length-three G P X o _ w v (k .room) e₁ _ _ refl e₂ _ _ refl e₃) at refl (behind-three G P X o _ w v (k .room) e₁ _ _ refl e₂ _ _ refl e₃)),
     )
 
 same-length : tie.Need-same-length
 same-length c = search needs
 
 returns : tie.Need-returns
+unfolding givenOf
 returns c =
-    let s = c .before .before .before .before .before .before .before .before .before .before .before .before .before .before .before .before .before .before .before .before .before .before .before .before .before .before .before .before in
+    let s = c .before .before .before .before .before .before .before .before .before .before .before .before .before .before .before .before .before .before .before .before .before .before .before .before .before .before in
     let a = s .args in
-    let G : Given = given (now (a .sizes)) (now (a .codes)) (now (a .limits)) (now (a .goals)) (now (a .xopt)) (now (a .prev-state)) (now (a .prev-state2)) in
-    let P : ℕ → Pose = viewOf (now (a .base)) (now (a .tail)) (a .from) (a .to) in
+    let ns = now (a .sizes) in
+    let G : Given = givenOf ns (now (a .codes)) (now (a .task)) in
+    let W = a .walked in
+    let P : ℕ → Pose = viewOf (now (a .base)) (now (a .tail)) (W .from) (W .to) in
     let X = now (a .x) in
     let o = now (a .out) in
     let t = s .pre .0 in
     let k = s .pre .1 in
     let w = t .paired .counted .whole in
     let v = t .values in
-    let e₁ = c .before .before .before .before .before .before .before .before .before .before .before .before .before .before .before .put-goals .ensures in
-    let e₂ = c .before .before .before .before .before .before .before .before .before .before .before .put-limits .ensures in
-    let m = c .before .before .before .before .before .before .before .put-motion in
-    let o₃ : List Float = m .last .1 .1 .1 .1 .1 .1 .1 .1 .1 .1 .1 .0 in
-    let at : ℕ = 6 * length (now (a .sizes)) + length X + 4 in
-    losses-made G P X o _ w v (k .room) e₁ _ _ refl e₂ _ _ refl (m .ensures) _ at refl
-    (c .before .before .put-pairs .ensures ∙ ap (λ (b : Bool). splice o₃ at (pairLosses (now (a .sizes)) P (chainLengths (now (a .sizes)) (now (a .codes))) b)) (c .before .before .before .before .no-number .ensures))
+    let e₁ : c .before .before .before .before .before .before .before .before .before .before .before .before .before .before .before .before .put-goals .last .1 .1 .1 .1 .1 .1 .0 ≡ splice o 0 (runs (goalLosses ns (G .goals) P) 0 (length ns)) =
+    c .before .before .before .before .before .before .before .before .before .before .before .before .before .before .before .before .put-goals .ensures ∙ ap (λ (gs : List Float). splice o 0 (runs (goalLosses ns gs P) 0 (length ns))) (c .before .before .before .before .before .before .before .before .before .before .before .before .before .before .before .before .before .before .goals .ensures .0) in
+    let o₁ : List Float = c .before .before .before .before .before .before .before .before .before .before .before .before .before .before .before .before .put-goals .last .1 .1 .1 .1 .1 .1 .0 in
+    let q : now (c .before .before .before .before .before .before .before .before .before .before .before .before .before .limits .result) ≡ G .limits = c .before .before .before .before .before .before .before .before .before .before .before .before .before .limits .ensures .0 ∙ ap (λ (m : ℕ). limitsOf m (now (a .task))) v in
+    let e₂ : c .before .before .before .before .before .before .before .before .before .before .before .put-limits .last .1 .1 .1 .1 .0 ≡ splice o₁ (6 * length ns) (runs (limitLosses (G .limits) X) 0 (length X)) =
+    c .before .before .before .before .before .before .before .before .before .before .before .put-limits .ensures ∙ ap (λ (ls : List Float). splice o₁ (6 * length ns) (runs (limitLosses ls X) 0 (length X))) q in
+    let o₂ : List Float = c .before .before .before .before .before .before .before .before .before .before .before .put-limits .last .1 .1 .1 .1 .0 in
+    let e₃ : c .before .before .before .before .before .before .before .put-motion .last .1 .1 .1 .1 .1 .1 .1 .1 .0 ≡ splice o₂ (6 * length ns + length X) (motionLosses P ns (now (a .codes)) X (G .xopt) (G .«prev_state») (G .«prev_state2»)) =
+    c .before .before .before .before .before .before .before .put-motion .ensures
+    ∙ ap (λ (m : ℕ). splice o₂ (6 * length ns + length X) (motionLosses P ns (now (a .codes)) X (xoptOf m (now (a .task))) (prevStateOf m (now (a .task))) (prevState2Of m (now (a .task))))) v in
+    let o₃ : List Float = c .before .before .before .before .before .before .before .put-motion .last .1 .1 .1 .1 .1 .1 .1 .1 .0 in
+    let at : ℕ = 6 * length ns + length X + 4 in
+    losses-made G P X o _ w v (k .room) e₁ _ _ refl e₂ _ _ refl e₃ _ at refl
+    (c .before .before .put-pairs .ensures ∙ ap (λ (b : Bool). splice o₃ at (pairLosses ns P (chainLengths ns (now (a .codes))) b)) (c .before .before .before .before .no-number .ensures))
 
 pub put-losses-spec : {M : Type 1} → statement M
 put-losses-spec =
     tie.close
     (tie.spec
+    goals-requires
     put-goals-requires
     mul-n
+    limits-requires
     put-limits-requires
     add-m
     put-motion-requires

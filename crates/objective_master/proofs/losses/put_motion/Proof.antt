@@ -8,6 +8,7 @@ use lib.Ieee.{Float}
 use lib.ListN.{length, set}
 use Rattle.lists.specs.Splice.{splice, splice-one, splice-splice, length-splice}
 use Rattle.groove.specs.Loss.{maximizeManipulability}
+use Rattle.task.specs.Task.{xoptOf, prevStateOf, prevState2Of}
 use Rattle.objective_master.specs.Losses.{changeLosses, motionLosses, change-length}
 use borrow.Author.Needs.{needs}
 use Rattle.objective_master.proofs.losses.put_motion.Statement.{statement}
@@ -41,10 +42,10 @@ returns : tie.Need-returns
 unfolding motionLosses
 returns c =
     let p = c .before .before .before in
-    let s = c .before .before .before .before .before .before .before .before .before .before .before .before .before .before .before in
+    let s = c .before .before .before .before .before .before .before .before .before .before .before .before .before in
     let a = s .args in
     let o = now (a .out) in
-    let C : List Float = changeLosses (now (a .x)) (now (a .xopt)) (now (a .prev-state)) (now (a .prev-state2)) in
+    let C : List Float = changeLosses (now (a .x)) (xoptOf (length (now (a .x))) (now (a .task))) (prevStateOf (length (now (a .x))) (now (a .task))) (prevState2Of (length (now (a .x))) (now (a .task))) in
     let n : length C ≡ 3 = change-length _ _ _ _ in
     let v = c .maximize-manipulability .result in
     let len : length (splice o (a .at) C) ≡ length o = length-splice o (a .at) C (omega (arith, s .pre .0)) in

@@ -1,78 +1,76 @@
--- `weighted_sum` meets its contract: its sections make the whole.
-use mathlib.Core.Path.{ap, _∙_}
-use Prim.Native.Nat.{ℕ}
+-- `weighted_sum` meets its contract: turn after turn one term more.
+use mathlib.Core.Path.{_≡_}
+use Prim.Native.Nat.{_-_, _≤_}
+use native.Mathlib.Omega.{arith}
 use denote.Ref.{now}
 use lib.ListN.{length}
-use Rattle.objective_master.specs.Weights.{sectionsOf, sections-made, sections-are}
+use Rattle.standins.specs.Num.{nought}
+use Rattle.objective_master.specs.Weights.{sumTo, termAt, sum-none, sum-more, sum-all}
 use borrow.Author.Needs.{needs}
 use Rattle.objective_master.proofs.weights.weighted_sum.Statement.{statement}
 use Rattle.objective_master.proofs.weights.weighted_sum.Tie as tie
-use Rattle.objective_master.proofs.weights.add_part.Reads as add-part-reads
-use Rattle.objective_master.proofs.weights.goals_part.Reads as goals-part-reads
-use Rattle.objective_master.proofs.weights.motion_part.Reads as motion-part-reads
+use Rattle.objective_master.proofs.weights.weight.Reads as weight-reads
 
-goals-part-requires : tie.Need-goals-part-requires
-goals-part-requires c κs = search needs
+abbrev Inv-loop : tie.InvT-loop
+Inv-loop weights kinds values s₀ i₀ s i = (i ≤ length kinds) × (s ≡ sumTo (termAt weights kinds values) nought i)
 
-shared-slice-read-add-part : tie.Need-shared-slice-read-add-part
-shared-slice-read-add-part c = search needs
+abbrev μ-loop : tie.MeasureT-loop
+μ-loop weights kinds values s₀ i₀ s i = length kinds - i
 
-mul-add-part : tie.Need-mul-add-part
-mul-add-part c = search needs
+loop-holds : tie.Need-loop-holds Inv-loop μ-loop
+loop-holds c = (omega arith, sum-none _ _ _)
 
-add-part-requires : tie.Need-add-part-requires
-add-part-requires c κs = search needs
+mul-weight : tie.Need-mul-weight Inv-loop μ-loop
+mul-weight c = omega arith
 
-mul-at : tie.Need-mul-at
-mul-at c = search needs
+shared-slice-read-weight : tie.Need-shared-slice-read-weight Inv-loop μ-loop
+shared-slice-read-weight c = omega arith
 
-add-at : tie.Need-add-at
-add-at c = search needs
+cast-weight : tie.Need-cast-weight Inv-loop μ-loop
+cast-weight c = omega (arith, c .shared-slice-known4 .given (c .before .before .loop .i))
 
-motion-part-requires : tie.Need-motion-part-requires
-motion-part-requires c κs = search needs
+weight-requires : tie.Need-weight-requires Inv-loop μ-loop
+weight-requires c κs = search needs
 
-shared-slice-read-add-part-2 : tie.Need-shared-slice-read-add-part-2
-shared-slice-read-add-part-2 c = search needs
+mul-s : tie.Need-mul-s Inv-loop μ-loop
+mul-s c = omega arith
 
-add-add-part : tie.Need-add-add-part
-add-add-part c = search needs
+shared-slice-read-s : tie.Need-shared-slice-read-s Inv-loop μ-loop
+shared-slice-read-s c = omega arith
 
-add-add-part-2 : tie.Need-add-add-part-2
-add-add-part-2 c = search needs
+add-i : tie.Need-add-i Inv-loop μ-loop
+add-i c = omega arith
 
-sub-add-part : tie.Need-sub-add-part
-sub-add-part c = search needs
+loop-less : tie.Need-loop-less Inv-loop μ-loop
+loop-less c = omega arith
 
-add-part-requires-2 : tie.Need-add-part-requires-2
-add-part-requires-2 c κs = search needs
+loop-again : tie.Need-loop-again Inv-loop μ-loop
+loop-again c =
+    let w = c .before in
+    let l = w .before .before .before in
+    let a = l .before .before .before .before .args in
+    (omega arith, sum-more (now (a .weights)) (now (a .kinds)) (now (a .values)) (l .loop .i) (l .loop .s) _ (l .loop .inv .1) (w .weight .ensures))
 
-returns : tie.Need-returns
+returns : tie.Need-returns Inv-loop μ-loop
 returns c =
-    let m = c .before .before in
-    let p = m .before in
-    let g = p .before .before in
-    let a = g .before .before .before .args in
-    let ws = now (a .weights) in
-    let vs = now (a .values) in
-    λ lens e₁ e₂ e₃.
-    sections-made ws (a .chains) (a .joints) vs _ _ _ _ (g .goals-part .ensures) (p .add-part .ensures) (m .motion-part .ensures) (c .add-part2 .ensures)
-    ∙ ap (λ (n : ℕ). sectionsOf ws n (a .joints) vs) e₁ ∙ ap (λ (n : ℕ). sectionsOf ws (length lens) n vs) e₂ ∙ sections-are ws lens vs e₃
+    let l = c .before in
+    let a = l .before .before .before .before .args in
+    sum-all (now (a .weights)) (now (a .kinds)) (now (a .values)) (l .loop .i) (l .loop .s) (l .loop .inv .1) (omega arith)
 
 pub weighted-sum-spec : {M : Type 1} → statement M
 weighted-sum-spec =
     tie.close
     (tie.spec
-    goals-part-requires
-    shared-slice-read-add-part
-    mul-add-part
-    add-part-requires
-    mul-at
-    add-at
-    motion-part-requires
-    shared-slice-read-add-part-2
-    add-add-part
-    add-add-part-2
-    sub-add-part
-    add-part-requires-2
+    Inv-loop
+    μ-loop
+    loop-holds
+    mul-weight
+    shared-slice-read-weight
+    cast-weight
+    weight-requires
+    mul-s
+    shared-slice-read-s
+    add-i
+    loop-less
+    loop-again
     returns)

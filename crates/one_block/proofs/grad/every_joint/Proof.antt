@@ -10,28 +10,30 @@ use Rattle.lists.specs.Splice.{splice, take-splice-before}
 use Rattle.lists.specs.Runs.{runs, splice-turn-at, splice-start-at}
 use Rattle.lists.specs.Listed.{listed, listed-none}
 use Rattle.sheet.specs.Chain.{first-zero, jointOf, joint-zero, joint-mono, joint-last}
+use Rattle.task.specs.Task.{Given, givenOf}
 use Rattle.spacetime.specs.Walk.{framesOf, start-zero}
-use Rattle.objective_master.specs.Losses.{Given, given}
-use Rattle.gradient.specs.Gradient.{lossesAt, gradientAt, gradientOf}
+use Rattle.gradient.specs.Gradient.{lossesAt, gradientAt}
 use Rattle.gradient.specs.Ready.{Ready}
 use Rattle.one_block.specs.Record.{againOf, jointEntry, linkEntry, poseEntry, againBelow, placeAfterTurn, Meets}
 use Rattle.one_block.specs.Laws.{joint-entry, link-entry, pose-entry, entries-over, below-entries, below-none, below-more, length-below, turn-at, turn-meets}
-use Rattle.one_block.specs.Slope.{slopesAfter, slopes-turn}
+use Rattle.one_block.specs.Slope.{slopesAfter, slopes-turn, slopes-all}
+use Rattle.one_block.specs.declared.grad.Turn.{Turn}
 use Rattle.one_block.proofs.grad.every_joint.Statement.{statement}
 use Rattle.one_block.proofs.grad.every_joint.Tie as tie
+use Rattle.geometry.proofs.pose.origin.Reads as origin-reads
+use Rattle.one_block.proofs.grad.link_turn.Reads as link-turn-reads
 
 abbrev Inv-loop : tie.InvT-loop
-Inv-loop weights sizes codes geo limits goals xopt prev-state prev-state2 block₀ n f-0s f-hs₀ grad₀ joints₀ links₀ frames₀ p₀ link₀ block f-hs grad joints links frames p link =
-    (link ≤ length codes) × Meets sizes codes geo block₀ link p × (p .at ≡ length codes + againBelow sizes codes link) × (block ≡ block₀)
+Inv-loop sizes codes floats task block₀ kinds f-0s grad₀ joints₀ links₀ frames₀ p₀ link₀ block grad joints links frames p link =
+    (link ≤ length codes) × Meets sizes codes floats block₀ link p × (p .at ≡ length codes + againBelow sizes codes link) × (block ≡ block₀)
     × (joints ≡ splice joints₀ (length codes) (runs (againOf jointEntry sizes codes) 0 link))
     × (links ≡ splice links₀ (length codes) (runs (againOf linkEntry sizes codes) 0 link))
-    × (frames ≡ splice frames₀ (7 * length codes) (runs (againOf (poseEntry sizes codes geo block₀) sizes codes) 0 link))
+    × (frames ≡ splice frames₀ (7 * length codes) (runs (againOf (poseEntry sizes codes floats block₀) sizes codes) 0 link))
     × (length joints ≡ length joints₀) × (length links ≡ length links₀) × (length frames ≡ length frames₀)
-    × (grad ≡ splice grad₀ 0 (listed (gradientAt weights (given sizes codes limits goals xopt prev-state prev-state2) geo block₀) (jointOf codes link)))
-    × (length grad ≡ length grad₀) × (length f-hs ≡ length f-hs₀)
+    × (grad ≡ splice grad₀ 0 (listed (gradientAt (givenOf sizes codes task) floats block₀) (jointOf codes link))) × (length grad ≡ length grad₀)
 
 abbrev μ-loop : tie.MeasureT-loop
-μ-loop weights sizes codes geo limits goals xopt prev-state prev-state2 block₀ n f-0s f-hs₀ grad₀ joints₀ links₀ frames₀ p₀ link₀ block f-hs grad joints links frames p link =
+μ-loop sizes codes floats task block₀ kinds f-0s grad₀ joints₀ links₀ frames₀ p₀ link₀ block grad joints links frames p link =
     length codes - link
 
 origin-requires : tie.Need-origin-requires Inv-loop μ-loop
@@ -39,16 +41,16 @@ origin-requires c κs = tt
 
 loop-holds : tie.Need-loop-holds Inv-loop μ-loop
 loop-holds c =
-    let s = c .before .before .before .before .before .before .before .before .before .before .before .before .before .before .before .before .before in
+    let s = c .before .before .before .before .before .before .before .before .before .before .before .before in
     let a = s .args in
     let ns = now (a .sizes) in
     let cs = now (a .codes) in
-    let gs = now (a .geo) in
+    let T = now (a .task) in
+    let gs = now (a .floats) in
     let x = now (a .block) in
-    let G : Given = given (now (a .sizes)) (now (a .codes)) (now (a .limits)) (now (a .goals)) (now (a .xopt)) (now (a .prev-state)) (now (a .prev-state2)) in
+    let G : Given = givenOf ns cs T in
     let n = length cs in
-    let ws = now (a .weights) in
-    let slope : ℕ → Float = gradientAt ws G gs x in (
+    let slope : ℕ → Float = gradientAt G gs x in (
       omega arith,
       record { number = sym (joint-zero cs); met = start-zero ns cs gs x _ (first-zero ns) },
       omega (arith, below-none ns cs),
@@ -61,30 +63,29 @@ loop-holds c =
       refl,
       listed-none slope (now (a .grad)) ∙ ap (λ (m : ℕ). splice (now (a .grad)) 0 (listed slope m)) (sym (joint-zero cs)),
       refl,
-      refl,
     )
 
-again-requires : tie.Need-again-requires Inv-loop μ-loop
-again-requires c κs =
-    let l = c .before .before .before .before .before .before .before in
-    let s = c .before .before .before .before .before .before .before .before .before .before .before .before .before .before .before .before .before .before .before .before .before .before .before .before .before in
+link-turn-requires : tie.Need-link-turn-requires Inv-loop μ-loop
+link-turn-requires c κs =
+    let l = c .before .before .before .before .before .before in
+    let s = c .before .before .before .before .before .before .before .before .before .before .before .before .before .before .before .before .before .before .before in
     let a = s .args in
     let ns = now (a .sizes) in
     let cs = now (a .codes) in
-    let gs = now (a .geo) in
+    let T = now (a .task) in
+    let gs = now (a .floats) in
     let x = now (a .block) in
-    let G : Given = given (now (a .sizes)) (now (a .codes)) (now (a .limits)) (now (a .goals)) (now (a .xopt)) (now (a .prev-state)) (now (a .prev-state2)) in
+    let G : Given = givenOf ns cs T in
     let n = length cs in
-    let ws = now (a .weights) in
     let i = l .loop .inv in
     let r = s .pre .1 .0 in
     let kn = s .pre .1 .1 .1 in (
-      subst (λ (y : List Float). Ready G gs y) (sym (i .3)) (s .pre .0),
+      subst (λ (y : List Float). Ready ns cs T gs y) (sym (i .3)) (s .pre .0),
       (
         record { joints-room = omega (arith, r, i .7); links-room = omega (arith, r, i .8); frames-room = omega (arith, r, i .9) },
         (
           record {
-            inside = c .before .before .before .before .before .before .loop-test .taken;
+            inside = c .before .before .before .before .before .loop-test .taken;
             meets = subst (λ (y : List Float). Meets ns cs gs y (l .loop .link) (l .loop .p)) (sym (i .3)) (i .1);
             next = i .2;
             walked =
@@ -93,11 +94,9 @@ again-requires c κs =
                 ∙ s .pre .1 .1 .0 ∙ ap (framesOf ns cs gs) (sym (i .3));
           },
           record {
-            weights = kn .weights;
-            many = kn .many;
+            kinds = kn .kinds;
             losses = kn .losses ∙ ap (lossesAt G gs) (sym (i .3));
-            first-room = kn .first-room;
-            raised-room = omega (arith, kn .raised-room, i .12);
+            losses-room = kn .losses-room;
             slopes-room = omega (arith, kn .slopes-room, i .11, ap length (i .3));
           },
         ),
@@ -105,97 +104,91 @@ again-requires c κs =
     )
 
 add-link : tie.Need-add-link Inv-loop μ-loop
-add-link c =
-    let s = c .before .before .before .before .before .before .before .before .before .before .before .before .before .before .before .before .before .before .before .before .before .before .before .before .before .before .before .before .before .before .before .before .before .before .before .before .before .before in
-    omega (arith, c .before .before .before .before .before .before .before .before .before .before .before .before .before .before .before .before .before .before .before .loop-test .taken, s .pre .0 .sheet .links)
+add-link c = omega (arith, c .before .before .before .before .before .before .before .before .before .before .before .before .before .before .before .before .loop-test .taken, c .before .before .before .before .before .before .before .before .before .before .before .before .before .before .before .before .before .before .before .before .before .before .before .before .before .before .before .before .before .before .pre .0 .sheet .links)
 
 loop-less : tie.Need-loop-less Inv-loop μ-loop
-loop-less c = omega (arith, c .before .before .before .before .before .before .before .before .before .before .before .before .before .before .before .before .before .before .before .loop-test .taken)
+loop-less c = omega (arith, c .before .before .before .before .before .before .before .before .before .before .before .before .before .before .before .before .loop-test .taken)
 
 loop-again : tie.Need-loop-again Inv-loop μ-loop
+unfolding givenOf
 loop-again c =
-    let l = c .before .before .before .before .before .before .before .before .before .before .before .before .before .before .before .before .before .before .before .before in
-    let s = c .before .before .before .before .before .before .before .before .before .before .before .before .before .before .before .before .before .before .before .before .before .before .before .before .before .before .before .before .before .before .before .before .before .before .before .before .before .before in
+    let l = c .before .before .before .before .before .before .before .before .before .before .before .before .before .before .before .before .before in
+    let s = c .before .before .before .before .before .before .before .before .before .before .before .before .before .before .before .before .before .before .before .before .before .before .before .before .before .before .before .before .before .before in
     let a = s .args in
     let ns = now (a .sizes) in
     let cs = now (a .codes) in
-    let gs = now (a .geo) in
+    let T = now (a .task) in
+    let gs = now (a .floats) in
     let x = now (a .block) in
-    let G : Given = given (now (a .sizes)) (now (a .codes)) (now (a .limits)) (now (a .goals)) (now (a .xopt)) (now (a .prev-state)) (now (a .prev-state2)) in
+    let G : Given = givenOf ns cs T in
     let n = length cs in
-    let ws = now (a .weights) in
     let i = l .loop .inv in
-    let t = c .before .before .before .before .before .before .before .before .before .before .before .before .again in
+    let t = c .before .before .before .before .before .before .before .before .before .before .link-turn in
     let k = l .loop .link in
     let p = l .loop .p in
-    let lt : k < n = c .before .before .before .before .before .before .before .before .before .before .before .before .before .before .before .before .before .before .before .loop-test .taken in
+    let u : Turn = record { link = k; here = p } in
+    let lt : k < n = c .before .before .before .before .before .before .before .before .before .before .before .before .before .before .before .before .loop-test .taken in
     let r = s .pre .1 .0 in
     let m = below-entries ns cs k (i .0) in
-    let turned : t .result ≡ placeAfterTurn ns cs gs x k p = t .ensures .0 ∙ ap (λ (y : List Float). placeAfterTurn ns cs gs y k p) (i .3) in
+    let turned : t .result ≡ placeAfterTurn ns cs gs x u = t .ensures .0 ∙ ap (λ (y : List Float). placeAfterTurn ns cs gs y u) (i .3) in
+    let e = t .ensures .1 .1 .0 in
     let lj = length-below jointEntry 1 joint-entry ns cs k in
     let ll = length-below linkEntry 1 link-entry ns cs k in
     let lp = length-below (poseEntry ns cs gs x) 7 (pose-entry ns cs gs x) ns cs k in (
       omega arith,
-      turn-meets ns cs gs x k p (t .result) (i .1) turned,
-      omega (arith, i .2, turn-at ns cs gs x k p (t .result) turned, below-more ns cs k),
+      turn-meets ns cs gs x u (t .result) (i .1) turned,
+      omega (arith, i .2, turn-at ns cs gs x u (t .result) turned, below-more ns cs k),
       t .ensures .1 .0 ∙ i .3,
-      splice-turn-at (againOf jointEntry ns cs) (now (a .joints)) (l .loop .joints) _ n (p .at) k (i .4) (omega (arith, i .2, lj)) (omega (arith, r, m, lj)) (t .ensures .1 .1 .0),
-      splice-turn-at (againOf linkEntry ns cs) (now (a .links)) (l .loop .links) _ n (p .at) k (i .5) (omega (arith, i .2, ll)) (omega (arith, r, m, ll)) (t .ensures .1 .1 .1 .0),
+      splice-turn-at (againOf jointEntry ns cs) (now (a .joints)) (l .loop .joints) _ n (p .at) k (i .4) (omega (arith, i .2, lj)) (omega (arith, r, m, lj)) (e .of-joints),
+      splice-turn-at (againOf linkEntry ns cs) (now (a .links)) (l .loop .links) _ n (p .at) k (i .5) (omega (arith, i .2, ll)) (omega (arith, r, m, ll)) (e .of-links),
       splice-turn-at (againOf (poseEntry ns cs gs x) ns cs) (now (a .frames)) (l .loop .frames) _ (7 * n) (7 * p .at) k (i .6) (omega (arith, i .2, lp)) (omega (arith, r, m, lp))
-          (t .ensures .1 .1 .1 .1 .0 ∙ ap (λ (y : List Float). splice (l .loop .frames) (7 * p .at) (againOf (poseEntry ns cs gs y) ns cs k)) (i .3)),
-      t .kept .1 .1 .1 .1 .1 .1 .1 .1 .1 .1 .1 .1 .1 .1 .1 .1 .0 ∙ i .7,
-      t .kept .1 .1 .1 .1 .1 .1 .1 .1 .1 .1 .1 .1 .1 .1 .1 .1 .1 .0 ∙ i .8,
-      t .kept .1 .1 .1 .1 .1 .1 .1 .1 .1 .1 .1 .1 .1 .1 .1 .1 .1 .1 .0 ∙ i .9,
-      slopes-turn ws G gs x (now (a .grad)) (l .loop .grad) _ k (i .10) (i .11) (omega (arith, joint-mono cs (k + 1) n (omega arith), joint-last cs, s .pre .0 .sheet .block, s .pre .1 .1 .1 .slopes-room))
-          (t .ensures .1 .1 .1 .1 .1 ∙ ap (λ (y : List Float). slopesAfter ws G gs y k (l .loop .grad)) (i .3)),
-      t .kept .1 .1 .1 .1 .1 .1 .1 .1 .1 .1 .1 .1 .1 .1 .1 .0 ∙ i .11,
-      t .kept .1 .1 .1 .1 .1 .1 .1 .1 .1 .1 .1 .1 .1 .1 .0 ∙ i .12,
+          (e .of-frames ∙ ap (λ (y : List Float). splice (l .loop .frames) (7 * p .at) (againOf (poseEntry ns cs gs y) ns cs k)) (i .3)),
+      t .kept .1 .1 .1 .1 .1 .1 .1 .1 .1 .0 ∙ i .7,
+      t .kept .1 .1 .1 .1 .1 .1 .1 .1 .1 .1 .0 ∙ i .8,
+      t .kept .1 .1 .1 .1 .1 .1 .1 .1 .1 .1 .1 .0 ∙ i .9,
+      slopes-turn G gs x (now (a .grad)) (l .loop .grad) _ k (i .10) (i .11) (omega (arith, joint-mono cs (k + 1) n (omega arith), joint-last cs, s .pre .0 .sheet .block, s .pre .1 .1 .1 .slopes-room))
+          (t .ensures .1 .1 .1 ∙ ap (λ (y : List Float). slopesAfter G gs y k (l .loop .grad)) (i .3)),
+      t .kept .1 .1 .1 .1 .1 .1 .1 .1 .0 ∙ i .11,
     )
 
 same-length : tie.Need-same-length Inv-loop μ-loop
 same-length c = ap length (c .before .loop .inv .3)
 
 same-length-2 : tie.Need-same-length-2 Inv-loop μ-loop
-same-length-2 c = c .before .loop .inv .12
+same-length-2 c = c .before .loop .inv .11
 
 same-length-3 : tie.Need-same-length-3 Inv-loop μ-loop
-same-length-3 c = c .before .loop .inv .11
+same-length-3 c = c .before .loop .inv .7
 
 same-length-4 : tie.Need-same-length-4 Inv-loop μ-loop
-same-length-4 c = c .before .loop .inv .7
+same-length-4 c = c .before .loop .inv .8
 
 same-length-5 : tie.Need-same-length-5 Inv-loop μ-loop
-same-length-5 c = c .before .loop .inv .8
-
-same-length-6 : tie.Need-same-length-6 Inv-loop μ-loop
-same-length-6 c = c .before .loop .inv .9
+same-length-5 c = c .before .loop .inv .9
 
 returns : tie.Need-returns Inv-loop μ-loop
-unfolding gradientOf
 returns c =
     let l = c .before in
-    let s = c .before .before .before .before .before .before .before .before .before .before .before .before .before .before .before .before .before .before .before in
+    let s = c .before .before .before .before .before .before .before .before .before .before .before .before .before .before in
     let a = s .args in
     let ns = now (a .sizes) in
     let cs = now (a .codes) in
-    let gs = now (a .geo) in
+    let T = now (a .task) in
+    let gs = now (a .floats) in
     let x = now (a .block) in
-    let G : Given = given (now (a .sizes)) (now (a .codes)) (now (a .limits)) (now (a .goals)) (now (a .xopt)) (now (a .prev-state)) (now (a .prev-state2)) in
+    let G : Given = givenOf ns cs T in
     let n = length cs in
-    let ws = now (a .weights) in
     let i = l .loop .inv in
     let e : l .loop .link ≡ n = omega (arith, i .0, c .loop-test .left) in
     let last : jointOf cs (l .loop .link) ≡ length x = ap (jointOf cs) e ∙ joint-last cs ∙ sym (s .pre .0 .sheet .block) in (
       i .3,
       (
-        i .10 ∙ ap (λ (m : ℕ). splice (now (a .grad)) 0 (listed (gradientAt ws G gs x) m)) last,
-        (
-          i .4 ∙ ap (λ (z : ℕ). splice (now (a .joints)) n (runs (againOf jointEntry ns cs) 0 z)) e,
-          (
-            i .5 ∙ ap (λ (z : ℕ). splice (now (a .links)) n (runs (againOf linkEntry ns cs) 0 z)) e,
-            i .6 ∙ ap (λ (z : ℕ). splice (now (a .frames)) (7 * n) (runs (againOf (poseEntry ns cs gs x) ns cs) 0 z)) e,
-          ),
-        ),
+        i .10 ∙ ap (λ (m : ℕ). splice (now (a .grad)) 0 (listed (gradientAt G gs x) m)) last ∙ ap (splice (now (a .grad)) 0) (slopes-all G gs x),
+        record {
+          of-joints = i .4 ∙ ap (λ (z : ℕ). splice (now (a .joints)) n (runs (againOf jointEntry ns cs) 0 z)) e;
+          of-links = i .5 ∙ ap (λ (z : ℕ). splice (now (a .links)) n (runs (againOf linkEntry ns cs) 0 z)) e;
+          of-frames = i .6 ∙ ap (λ (z : ℕ). splice (now (a .frames)) (7 * n) (runs (againOf (poseEntry ns cs gs x) ns cs) 0 z)) e;
+        },
       ),
     )
 
@@ -207,7 +200,7 @@ every-joint-spec =
     μ-loop
     origin-requires
     loop-holds
-    again-requires
+    link-turn-requires
     add-link
     loop-less
     loop-again
@@ -216,5 +209,4 @@ every-joint-spec =
     same-length-3
     same-length-4
     same-length-5
-    same-length-6
     returns)

@@ -1,7 +1,7 @@
--- `gradient` meets its contract: the first walk, its losses, then every joint's turn.
-use mathlib.Core.Path.{_≡_, sym, ap, _∙_}
+-- `gradient` meets its contract: the kinds, the first walk and its losses, then every joint's turn.
+use mathlib.Core.Path.{_≡_, ap, _∙_}
 use mathlib.Core.List.{List}
-use Prim.Native.Nat.{ℕ, _*_, _≤_}
+use Prim.Native.Nat.{ℕ, _*_}
 use native.Mathlib.Omega.{arith}
 use denote.Ref.{now}
 use lib.Ieee.{Float}
@@ -9,146 +9,151 @@ use lib.ListN.{length, take, replicate}
 use Rattle.standins.specs.Num.{nought}
 use Rattle.lists.specs.Splice.{splice, splice-splice, part-splice}
 use Rattle.lists.specs.Runs.{runs, length-runs}
+use Rattle.task.specs.Task.{Given, givenOf}
 use Rattle.spacetime.specs.Walk.{framesOf}
-use Rattle.self_collision.specs.Pairs.{chainLengths, lengths-count}
-use Rattle.objective_master.specs.Losses.{Given, given, objectivesOf}
+use Rattle.objective_master.specs.Kinds.{kinds-length}
+use Rattle.objective_master.specs.Weights.{weightedBy}
 use Rattle.gradient.specs.Gradient.{lossesAt}
-use Rattle.gradient.specs.Ready.{joints-are, count-least, count-most, lent-whole, standing-whole, losses-walked}
+use Rattle.gradient.specs.Ready.{KindsListed, kinds-most, kinds-listed, lent-whole, standing-whole, losses-walked}
 use Rattle.gradient.specs.Made.{losses-front, value-made}
 use Rattle.one_block.specs.Record.{againOf, recordOf, jointEntry, linkEntry, poseEntry, recordJoints, recordLinks, recordPoses}
 use Rattle.one_block.specs.Laws.{joint-entry, link-entry, pose-entry, frames-length, entries-over, first-poses}
 use borrow.Author.Needs.{needs}
 use Rattle.one_block.proofs.grad.gradient.Statement.{statement}
 use Rattle.one_block.proofs.grad.gradient.Tie as tie
+use Rattle.objective_master.proofs.losses.put_losses.Reads as put-losses-reads
+use Rattle.objective_master.proofs.relaxed_ik.relaxed_ik.Reads as relaxed-ik-reads
+use Rattle.objective_master.proofs.weights.weighted_sum.Reads as weighted-sum-reads
+use Rattle.one_block.proofs.grad.every_joint.Reads as every-joint-reads
+use Rattle.one_block.proofs.grad.first_walk.Reads as first-walk-reads
+use Rattle.task.proofs.parts.weights.Reads as weights-reads
 
--- the start, from the place after the first losses were put
-abbrev S : tie.After-put-losses → tie.Start
-S c = c .before .before .before .before .before .before .before .before .before .before .before .before .before .before .before .before .before .before .before .before .before .before .before .before .before .before .before .before .before .before
+-- the start, from the places after the kinds were listed, and after the first losses were put
+abbrev S : tie.After-relaxed-ik → tie.Start
+S c = c .before .before .before .before .before .before .before .before .before .before .before
 
--- the first losses, and their number
+abbrev L : tie.After-put-losses → tie.Start
+L c = S (c .before .before .before .before .before .before .before .before .before .before .before .before .before .before .before .before)
+
+-- the kinds stand in front of their list
+listed : (c : tie.After-relaxed-ik) → KindsListed (now (S c .args .sizes)) (now (S c .args .codes)) (c .relaxed-ik .last .1 .1 .0) (c .relaxed-ik .result)
+listed c =
+    let a = S c .args in
+    let k = c .relaxed-ik in
+    kinds-listed (now (a .sizes)) (now (a .codes)) (now (a .task)) (now (a .floats)) (now (a .block)) (S c .pre .0 .0) _ _ _ (k .kept .1 .1 .0) (k .ensures .0) (k .ensures .1)
+
+-- the first losses
 abbrev losses₀ : tie.After-put-losses → List Float
-losses₀ c = c .put-losses .last .1 .1 .1 .1 .1 .1 .1 .1 .1 .1 .1 .1 .1 .0
+losses₀ c = c .put-losses .last .1 .1 .1 .1 .1 .1 .1 .0
 
-abbrev N : tie.After-put-losses → ℕ
-N c = c .before .before .before .before .before .before .before .before .before .before .before .before .before .before .before .objective-count .result
-
-few : (s : tie.Start) → length (objectivesOf (given (now (s .args .sizes)) (now (s .args .codes)) (now (s .args .limits)) (now (s .args .goals)) (now (s .args .xopt)) (now (s .args .prev-state)) (now (s .args .prev-state2)))) ≤ 131
-few s = count-most (given (now (s .args .sizes)) (now (s .args .codes)) (now (s .args .limits)) (now (s .args .goals)) (now (s .args .xopt)) (now (s .args .prev-state)) (now (s .args .prev-state2))) (now (s .args .geo)) (now (s .args .block)) (s .pre .0)
-
-room : (c : tie.After-put-losses) → N c ≤ length (losses₀ c)
-room c =
-    let s = S c in
-    let l : length (losses₀ c) ≡ 131 = c .put-losses .kept .1 .1 .1 .1 .1 .1 .1 .1 .1 .1 .1 .1 .1 .0 in
-    omega (arith, few s, c .before .before .before .before .before .before .before .before .before .before .before .before .before .before .before .objective-count .ensures)
-
-made : (c : tie.After-put-losses) → losses₀ c ≡ splice (replicate 131 nought) 0 (lossesAt (given (now (S c .args .sizes)) (now (S c .args .codes)) (now (S c .args .limits)) (now (S c .args .goals)) (now (S c .args .xopt)) (now (S c .args .prev-state)) (now (S c .args .prev-state2))) (now (S c .args .geo)) (now (S c .args .block)))
+made : (c : tie.After-put-losses) → losses₀ c ≡ splice (replicate 131 nought) 0 (lossesAt (givenOf (now (L c .args .sizes)) (now (L c .args .codes)) (now (L c .args .task))) (now (L c .args .floats)) (now (L c .args .block)))
 made c =
-    let s = S c in
     let w = c .before .before .before .before .before .before .before .before .before .before .first-walk in
+    let s = L c in
     let a = s .args in
     let ns = now (a .sizes) in
     let cs = now (a .codes) in
-    let gs = now (a .geo) in
+    let T = now (a .task) in
+    let gs = now (a .floats) in
     let x = now (a .block) in
-    let G : Given = given (now (a .sizes)) (now (a .codes)) (now (a .limits)) (now (a .goals)) (now (a .xopt)) (now (a .prev-state)) (now (a .prev-state2)) in
-    let n = length cs in
-    let rd = s .pre .0 in
-    c .put-losses .ensures ∙ ap (splice (replicate 131 nought) 0) (losses-walked G gs x rd (now (a .frames)) (w .last .1 .1 .1 .1 .1 .1 .0) (omega (arith, s .pre .1 .0, entries-over ns cs)) (w .ensures .1 .1))
+    let G : Given = givenOf ns cs T in
+    c .put-losses .ensures ∙ ap (splice (replicate 131 nought) 0) (losses-walked ns cs T gs x (s .pre .0 .0) (now (a .frames)) (w .last .1 .1 .1 .1 .1 .1 .0) (omega (arith, s .pre .1, entries-over ns cs)) (w .ensures .1 .1))
 
-losses : (c : tie.After-put-losses) → take (N c) (losses₀ c) ≡ lossesAt (given (now (S c .args .sizes)) (now (S c .args .codes)) (now (S c .args .limits)) (now (S c .args .goals)) (now (S c .args .xopt)) (now (S c .args .prev-state)) (now (S c .args .prev-state2))) (now (S c .args .geo)) (now (S c .args .block))
-losses c =
-    let s = S c in
+slice-aggregate-relaxed-ik : tie.Need-slice-aggregate-relaxed-ik
+slice-aggregate-relaxed-ik c = search needs
+
+relaxed-ik-requires : tie.Need-relaxed-ik-requires
+relaxed-ik-requires c κs =
+    let s = c .before .before .before .before .before .before .before .before .before .before in
     let a = s .args in
     let ns = now (a .sizes) in
     let cs = now (a .codes) in
-    let gs = now (a .geo) in
+    let T = now (a .task) in
+    let gs = now (a .floats) in
     let x = now (a .block) in
-    let G : Given = given (now (a .sizes)) (now (a .codes)) (now (a .limits)) (now (a .goals)) (now (a .xopt)) (now (a .prev-state)) (now (a .prev-state2)) in
-    let n = length cs in
-    let rd = s .pre .0 in
-    losses-front G gs x (replicate 131 nought) (losses₀ c) (N c) (c .before .before .before .before .before .before .before .before .before .before .before .before .before .before .before .objective-count .ensures) (made c)
-
-objective-count-requires : tie.Need-objective-count-requires
-objective-count-requires c κs = search needs
+    let G : Given = givenOf ns cs T in
+    let r = s .pre .0 .0 in
+    ((r .paired .counted, r .sheet .chains), omega (arith, kinds-most ns cs T gs x r, kinds-length ns cs))
 
 first-walk-requires : tie.Need-first-walk-requires
 first-walk-requires c κs =
-    let s = c .before .before .before .before .before .before .before .before .before .before .before .before .before .before .before .before .before .before .before in
+    let s = c .before .before .before .before .before .before .before .before .before .before .before .before .before .before .before .before in
     let o = entries-over (now (s .args .sizes)) (now (s .args .codes)) in
-    let r = s .pre .1 .0 in
-    (s .pre .0 .sheet, record { joints-room = omega (arith, o, r); links-room = omega (arith, o, r); frames-room = omega (arith, o, r) })
+    let r = s .pre .1 in
+    (s .pre .0 .0 .sheet, record { joints-room = omega (arith, o, r); links-room = omega (arith, o, r); frames-room = omega (arith, o, r) })
 
 slice-aggregate-put-losses : tie.Need-slice-aggregate-put-losses
 slice-aggregate-put-losses c = search needs
 
 put-losses-requires : tie.Need-put-losses-requires
 put-losses-requires c κs =
-    let s = c .before .before .before .before .before .before .before .before .before .before .before .before .before .before .before .before .before .before .before .before .before .before .before .before .before .before .before .before .before in
-    let w = c .before .before .before .before .before .before .before .before .before .first-walk in
+    let s = c .before .before .before .before .before .before .before .before .before .before .before .before .before .before .before .before .before .before .before .before .before .before .before .before .before .before in
     let a = s .args in
     let ns = now (a .sizes) in
     let cs = now (a .codes) in
-    let gs = now (a .geo) in
+    let T = now (a .task) in
+    let gs = now (a .floats) in
     let x = now (a .block) in
-    let G : Given = given (now (a .sizes)) (now (a .codes)) (now (a .limits)) (now (a .goals)) (now (a .xopt)) (now (a .prev-state)) (now (a .prev-state2)) in
-    let n = length cs in
-    let rd = s .pre .0 in
-    (lent-whole G gs x rd (w .last .1 .1 .1 .1 .1 .1 .0) (omega (arith, s .pre .1 .0, entries-over ns cs, w .kept .1 .1 .1 .1 .1 .1 .0)), standing-whole G gs x rd _ _ (few s))
+    let G : Given = givenOf ns cs T in
+    let w = c .before .before .before .before .before .before .before .before .before .first-walk in
+    let r = s .pre .0 .0 in
+    (lent-whole ns cs T gs x r (w .last .1 .1 .1 .1 .1 .1 .0) (omega (arith, s .pre .1, entries-over ns cs, w .kept .1 .1 .1 .1 .1 .1 .0)), standing-whole ns cs T gs x r _ _ (kinds-most ns cs T gs x r))
+
+array-share-prefix-list : tie.Need-array-share-prefix-list
+array-share-prefix-list c = listed (c .before .before .before .before .before .before .before .before .before .before .before .before .before .before .before .before .before .before) .within
 
 slice-aggregate-every-joint : tie.Need-slice-aggregate-every-joint
-slice-aggregate-every-joint c = search needs
+slice-aggregate-every-joint c = listed (c .before .before .before .before .before .before .before .before .before .before .before .before .before .before .before .before .before .before .before) .many
 
 slice-aggregate-every-joint-2 : tie.Need-slice-aggregate-every-joint-2
 slice-aggregate-every-joint-2 c = search needs
 
 every-joint-requires : tie.Need-every-joint-requires
+unfolding givenOf
 every-joint-requires c κs =
     let p = c .before .before .before .before .before .before .before .before in
-    let s = S p in
+    let k = c .before .before .before .before .before .before .before .before .before .before .before .before .before .before .before .before .before .before .before .before .before .before .before .before in
     let w = c .before .before .before .before .before .before .before .before .before .before .before .before .before .before .before .before .before .before .first-walk in
+    let s = c .before .before .before .before .before .before .before .before .before .before .before .before .before .before .before .before .before .before .before .before .before .before .before .before .before .before .before .before .before .before .before .before .before .before .before in
     let a = s .args in
     let ns = now (a .sizes) in
     let cs = now (a .codes) in
-    let gs = now (a .geo) in
+    let T = now (a .task) in
+    let gs = now (a .floats) in
     let x = now (a .block) in
-    let G : Given = given (now (a .sizes)) (now (a .codes)) (now (a .limits)) (now (a .goals)) (now (a .xopt)) (now (a .prev-state)) (now (a .prev-state2)) in
+    let G : Given = givenOf ns cs T in
     let n = length cs in
-    let rd = s .pre .0 in
-    let r = s .pre .1 .0 in
-    let many = c .before .before .before .before .before .before .before .before .before .before .before .before .before .before .before .before .before .before .before .before .before .before .before .objective-count .ensures in (
+    let rd = s .pre .0 .0 in
+    let r = s .pre .1 in (
       rd,
       (
         record { joints-room = omega (arith, r, w .kept .1 .1 .1 .1 .0); links-room = omega (arith, r, w .kept .1 .1 .1 .1 .1 .0); frames-room = omega (arith, r, w .kept .1 .1 .1 .1 .1 .1 .0) },
         (
           ap (take (7 * n)) (w .ensures .1 .1) ∙ part-splice (now (a .frames)) 0 (7 * n) (framesOf ns cs gs x) (omega arith) (frames-length ns cs gs x),
           record {
-            weights = s .pre .1 .1 .0;
-            many = many;
-            losses = losses p;
-            first-room = room p;
-            raised-room = let h : N p ≤ 131 = omega (arith, few s, many) in h;
-            slopes-room = s .pre .1 .1 .1;
+            kinds = listed k .front;
+            losses = losses-front G gs x (replicate 131 nought) (losses₀ p) _ (ap length (listed k .front) ∙ kinds-length ns cs) (made p);
+            losses-room = omega (arith, listed k .few, p .put-losses .kept .1 .1 .1 .1 .1 .1 .1 .0);
+            slopes-room = s .pre .0 .1;
           },
         ),
       ),
     )
 
-slice-aggregate-sum-of : tie.Need-slice-aggregate-sum-of
-slice-aggregate-sum-of c = search needs
+weights-requires : tie.Need-weights-requires
+weights-requires c κs = c .before .before .before .before .before .before .before .before .before .before .before .before .before .before .before .before .before .before .before .before .before .before .before .before .before .before .before .before .before .before .before .before .before .before .before .before .before .before .before .before .before .before .before .before .before .before .pre .0 .0 .whole
 
-sum-of-requires : tie.Need-sum-of-requires
-sum-of-requires c κs =
-    let p = c .before .before .before .before .before .before .before .before .before .before .before .before .before .before .before .before .before .before .before .before .before in
-    let s = S p in
-    let a = s .args in
-    let ns = now (a .sizes) in
-    let cs = now (a .codes) in
-    let gs = now (a .geo) in
-    let x = now (a .block) in
-    let G : Given = given (now (a .sizes)) (now (a .codes)) (now (a .limits)) (now (a .goals)) (now (a .xopt)) (now (a .prev-state)) (now (a .prev-state2)) in
-    let n = length cs in
-    let rd = s .pre .0 in
-    (s .pre .1 .1 .0, omega (arith, count-least G gs x rd, c .before .before .before .before .before .before .before .before .before .before .before .before .before .before .before .before .before .before .before .before .before .before .before .before .before .before .before .before .before .before .before .before .before .before .before .before .objective-count .ensures, c .before .before .before .before .before .before .before .before .before .before .before .before .every-joint .kept .1 .1 .1 .1 .1 .1 .1 .1 .1 .0), room p)
+array-share-prefix-list-2 : tie.Need-array-share-prefix-list-2
+array-share-prefix-list-2 c = listed (c .before .before .before .before .before .before .before .before .before .before .before .before .before .before .before .before .before .before .before .before .before .before .before .before .before .before .before .before .before .before .before .before .before .before .before .before) .within
+
+slice-aggregate-weighted-sum : tie.Need-slice-aggregate-weighted-sum
+slice-aggregate-weighted-sum c = listed (c .before .before .before .before .before .before .before .before .before .before .before .before .before .before .before .before .before .before .before .before .before .before .before .before .before .before .before .before .before .before .before .before .before .before .before .before .before) .many
+
+slice-aggregate-weighted-sum-2 : tie.Need-slice-aggregate-weighted-sum-2
+slice-aggregate-weighted-sum-2 c = search needs
+
+weighted-sum-requires : tie.Need-weighted-sum-requires
+weighted-sum-requires c κs = omega (arith, listed (c .before .before .before .before .before .before .before .before .before .before .before .before .before .before .before .before .before .before .before .before .before .before .before .before .before .before .before .before .before .before .before .before .before .before .before .before .before .before) .few, c .before .before .before .before .before .before .before .before .before .before .before .before .before .before .before .before .before .before .before .before .before .before .put-losses .kept .1 .1 .1 .1 .1 .1 .1 .0)
 
 same-length : tie.Need-same-length
 same-length c = search needs
@@ -157,52 +162,54 @@ same-length-2 : tie.Need-same-length-2
 same-length-2 c = search needs
 
 same-length-3 : tie.Need-same-length-3
-same-length-3 c = c .before .before .before .before .before .before .before .before .before .before .before .before .before .every-joint .kept .1 .1 .1 .1 .1 .1 .1 .1 .1 .1 .1 .1 .1 .1 .0 ∙ c .before .before .before .before .before .before .before .before .before .before .before .before .before .before .before .before .before .before .before .before .before .before .before .before .before .before .before .before .before .before .before .before .first-walk .kept .1 .1 .1 .1 .0
+same-length-3 c = c .before .before .before .before .before .before .before .before .before .before .before .before .before .before .every-joint .kept .1 .1 .1 .1 .1 .1 .1 .1 .0 ∙ c .before .before .before .before .before .before .before .before .before .before .before .before .before .before .before .before .before .before .before .before .before .before .before .before .before .before .before .before .before .before .before .before .before .first-walk .kept .1 .1 .1 .1 .0
 
 same-length-4 : tie.Need-same-length-4
-same-length-4 c = c .before .before .before .before .before .before .before .before .before .before .before .before .before .every-joint .kept .1 .1 .1 .1 .1 .1 .1 .1 .1 .1 .1 .1 .1 .1 .1 .0 ∙ c .before .before .before .before .before .before .before .before .before .before .before .before .before .before .before .before .before .before .before .before .before .before .before .before .before .before .before .before .before .before .before .before .first-walk .kept .1 .1 .1 .1 .1 .0
+same-length-4 c = c .before .before .before .before .before .before .before .before .before .before .before .before .before .before .every-joint .kept .1 .1 .1 .1 .1 .1 .1 .1 .1 .0 ∙ c .before .before .before .before .before .before .before .before .before .before .before .before .before .before .before .before .before .before .before .before .before .before .before .before .before .before .before .before .before .before .before .before .before .first-walk .kept .1 .1 .1 .1 .1 .0
 
 same-length-5 : tie.Need-same-length-5
 same-length-5 c = search needs
 
 returns : tie.Need-returns
-unfolding recordJoints recordLinks recordPoses recordOf
+unfolding recordJoints recordLinks recordPoses recordOf givenOf
 returns c =
-    let p = c .before .before .before .before .before .before .before .before .before .before .before .before .before .before .before .before .before .before .before .before .before .before in
-    let s = S p in
-    let w = c .before .before .before .before .before .before .before .before .before .before .before .before .before .before .before .before .before .before .before .before .before .before .before .before .before .before .before .before .before .before .before .before .first-walk in
-    let t = c .before .before .before .before .before .before .before .before .before .before .before .before .before .every-joint in
+    let p = c .before .before .before .before .before .before .before .before .before .before .before .before .before .before .before .before .before .before .before .before .before .before .before in
+    let k = c .before .before .before .before .before .before .before .before .before .before .before .before .before .before .before .before .before .before .before .before .before .before .before .before .before .before .before .before .before .before .before .before .before .before .before .before .before .before .before in
+    let w = c .before .before .before .before .before .before .before .before .before .before .before .before .before .before .before .before .before .before .before .before .before .before .before .before .before .before .before .before .before .before .before .before .before .first-walk in
+    let t = c .before .before .before .before .before .before .before .before .before .before .before .before .before .before .every-joint in
+    let s = c .before .before .before .before .before .before .before .before .before .before .before .before .before .before .before .before .before .before .before .before .before .before .before .before .before .before .before .before .before .before .before .before .before .before .before .before .before .before .before .before .before .before .before .before .before .before .before .before .before .before in
     let a = s .args in
     let ns = now (a .sizes) in
     let cs = now (a .codes) in
-    let gs = now (a .geo) in
+    let T = now (a .task) in
+    let gs = now (a .floats) in
     let x = now (a .block) in
-    let G : Given = given (now (a .sizes)) (now (a .codes)) (now (a .limits)) (now (a .goals)) (now (a .xopt)) (now (a .prev-state)) (now (a .prev-state2)) in
+    let G : Given = givenOf ns cs T in
     let n = length cs in
-    let rd = s .pre .0 in
-    let ws = now (a .weights) in
-    let r = s .pre .1 .0 in
+    let r = s .pre .1 in
     let o = entries-over ns cs in
-    let many = c .before .before .before .before .before .before .before .before .before .before .before .before .before .before .before .before .before .before .before .before .before .before .before .before .before .before .before .before .before .before .before .before .before .before .before .before .before .objective-count .ensures in
+    let ks = take (k .relaxed-ik .result) (k .relaxed-ik .last .1 .1 .0) in
+    let e = t .ensures .1 .1 in
     let again-joints = runs (againOf jointEntry ns cs) 0 n in
     let again-links = runs (againOf linkEntry ns cs) 0 n in
     let again-poses = runs (againOf (poseEntry ns cs gs x) ns cs) 0 n in
     let lj = length-runs (jointEntry 65535) 1 (joint-entry 65535) 0 n in
     let ll = length-runs (linkEntry 65535) 1 (link-entry 65535) 0 n in
     let lp = length-runs (poseEntry ns cs gs x 65535) 7 (pose-entry ns cs gs x 65535) 0 n in (
-      value-made ws G gs x (replicate 131 nought) (losses₀ p) (N p) (c .sum-of .result) many (made p) (c .sum-of .ensures (chainLengths ns cs) (sym (lengths-count ns cs)) (t .kept .1 .1 .1 .1 .1 .1 .1 .1 .1 .0 ∙ joints-are G gs x rd) many),
+      c .weighted-sum .ensures ∙ ap (λ (ws : List Float). weightedBy ws ks (losses₀ p)) (c .before .before .before .weights .ensures .0)
+          ∙ value-made G gs x ks (listed k .front) (replicate 131 nought) (losses₀ p) (listed k .few) (made p),
       (
         t .ensures .1 .0,
         (
           t .ensures .0,
           (
             (
-              t .ensures .1 .1 .0 ∙ ap (λ (y : List ℕ). splice y n again-joints) (w .ensures .0)
+              e .of-joints ∙ ap (λ (y : List ℕ). splice y n again-joints) (w .ensures .0)
                   ∙ splice-splice (now (a .joints)) 0 n (runs (jointEntry 65535) 0 n) again-joints (omega (arith, lj)) (omega (arith, lj, r, o)),
-              t .ensures .1 .1 .1 .0 ∙ ap (λ (y : List ℕ). splice y n again-links) (w .ensures .1 .0)
+              e .of-links ∙ ap (λ (y : List ℕ). splice y n again-links) (w .ensures .1 .0)
                   ∙ splice-splice (now (a .links)) 0 n (runs (linkEntry 65535) 0 n) again-links (omega (arith, ll)) (omega (arith, ll, r, o)),
             ),
-            t .ensures .1 .1 .1 .1 ∙ ap (λ (y : List Float). splice y (7 * n) again-poses) (w .ensures .1 .1 ∙ ap (splice (now (a .frames)) 0) (first-poses ns cs gs x))
+            e .of-frames ∙ ap (λ (y : List Float). splice y (7 * n) again-poses) (w .ensures .1 .1 ∙ ap (splice (now (a .frames)) 0) (first-poses ns cs gs x))
                 ∙ splice-splice (now (a .frames)) 0 (7 * n) (runs (poseEntry ns cs gs x 65535) 0 n) again-poses (omega (arith, lp)) (omega (arith, lp, r, o)),
           ),
         ),
@@ -213,15 +220,20 @@ pub gradient-spec : {M : Type 1} → statement M
 gradient-spec =
     tie.close
     (tie.spec
-    objective-count-requires
+    slice-aggregate-relaxed-ik
+    relaxed-ik-requires
     first-walk-requires
     slice-aggregate-put-losses
     put-losses-requires
+    array-share-prefix-list
     slice-aggregate-every-joint
     slice-aggregate-every-joint-2
     every-joint-requires
-    slice-aggregate-sum-of
-    sum-of-requires
+    weights-requires
+    array-share-prefix-list-2
+    slice-aggregate-weighted-sum
+    slice-aggregate-weighted-sum-2
+    weighted-sum-requires
     same-length
     same-length-2
     same-length-3

@@ -1,4 +1,4 @@
--- `put_back` meets its contract: the old value stored over a raised one gives the block back.
+-- `put_back` meets its contract: the old value gives back the block that was raised.
 use mathlib.Core.Path.{refl, ap, _∙_}
 use mathlib.Core.List.{List}
 use lib.Ieee.{Float}
@@ -21,7 +21,7 @@ same-length c = search needs
 returns : tie.Need-returns
 returns c =
     let a = c .args in
-    (refl, λ x h raised old. ap (λ (b : List Float). set b (a .joint) (a .old)) raised ∙ ap (set (raisedBy h x (a .joint)) (a .joint)) old ∙ put-back h x (a .joint))
+    (refl, λ x h e f. ap (λ (b : List Float). set b (a .joint) (a .old)) e ∙ ap (set (raisedBy h x (a .joint)) (a .joint)) f ∙ put-back h x (a .joint))
 
 pub put-back-spec : {M : Type 1} → statement M
 put-back-spec = tie.close (tie.spec mul-block slice-write-block same-length returns)

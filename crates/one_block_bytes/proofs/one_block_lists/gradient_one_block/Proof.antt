@@ -1,31 +1,33 @@
 -- `gradient_one_block` meets its contract: a refusal writes nothing; else the outputs are the bytes of value, slopes and record.
-use mathlib.Core.Path.{_≡_, refl, sym, ap, _∙_}
+use mathlib.Core.Path.{refl, sym, ap, _∙_}
 use mathlib.Core.List.{List, [], _∷_}
 use Prim.Native.Nat.{ℕ, _*_}
 use native.Mathlib.Omega.{arith}
 use denote.Ref.{now}
 use lib.Ieee.{Float}
-use lib.ListN.{length, take}
-use lib.Seq.{length-take-le}
+use lib.ListN.{length}
 use Rattle.lists.specs.Splice.{splice}
+use Rattle.gradient.specs.declared.slopes.Rule.the-variants.{EachLoss}
 use Rattle.calls.specs.Arms.{taken, refused}
 use Rattle.lent_bytes.specs.Lent.{front, bytesOf, bytesOfNumbers}
 use Rattle.lent_bytes.specs.SheetLists.{SheetLists, sheetWith}
-use Rattle.objective_bytes.specs.ObjectiveLaws.{gradient-slopes-length}
+use Rattle.objective_bytes.specs.ObjectiveLaws.{slopes-in-length}
 use Rattle.one_block_bytes.specs.OneBlockCalls.{jointsIn, linksIn, posesIn}
 use Rattle.one_block_bytes.specs.OneBlockLaws.{Fitted, one-block-fitted, aimed-counted, joints-in-length, links-in-length, poses-in-length}
 use borrow.Author.Needs.{needs}
 use Rattle.one_block_bytes.proofs.one_block_lists.gradient_one_block.Statement.{statement}
 use Rattle.one_block_bytes.proofs.one_block_lists.gradient_one_block.Tie as tie
+use Rattle.one_block_bytes.proofs.one_block_lists.entries.Reads as entries-reads
+use Rattle.one_block_bytes.proofs.one_block_lists.one_block_number.Reads as one-block-number-reads
+use Rattle.one_block_bytes.proofs.one_block_lists.one_block_on.Reads as one-block-on-reads
+use Rattle.one_block_bytes.proofs.one_block_lists.put_record.Reads as put-record-reads
+use Rattle.one_block_bytes.proofs.one_block_lists.put_slopes.Reads as put-slopes-reads
 
 abbrev sheet : tie.Start → SheetLists
 sheet s = sheetWith (now (s .args .sizes)) (now (s .args .codes)) (now (s .args .floats)) (now (s .args .limits))
 
 abbrev block : tie.Start → List Float
-block s = take (s .args .n) (now (s .args .x))
-
-long : (s : tie.Start) → length (block s) ≡ s .args .n
-long s = length-take-le (s .args .n) (now (s .args .x)) (s .pre)
+block s = now (s .args .block)
 
 abbrev S : tie.Else1 → tie.Start
 S c = c .before .before .before .before .before .before .before .before .before .before .before .before .before .before .before
@@ -34,12 +36,6 @@ S c = c .before .before .before .before .before .before .before .before .before 
 fitted : (c : tie.Else1) → Fitted (sheet (S c)) (now (S c .args .goals)) (now (S c .args .history)) (block (S c)) (length (now (S c .args .value))) (length (now (S c .args .slopes)))
     (length (now (S c .args .record-joints))) (length (now (S c .args .record-links))) (length (now (S c .args .record-poses)))
 fitted c = one-block-fitted (sheet (S c)) _ _ _ _ _ _ _ _ (sym (c .before .one-block-number .ensures) ∙ c .if1 .left)
-
-slice-reshare-prefix-one-block-number : tie.Need-slice-reshare-prefix-one-block-number
-slice-reshare-prefix-one-block-number c = search needs
-
-slice-aggregate-one-block-number : tie.Need-slice-aggregate-one-block-number
-slice-aggregate-one-block-number c = sym (long (c .before .before .before .before .before .before .before .before .before .before .before .before .before))
 
 one-block-number-requires : tie.Need-one-block-number-requires
 one-block-number-requires c κs = search needs
@@ -53,11 +49,8 @@ returns c =
     let t = c .if1 .taken in
     (c .before .one-block-number .ensures, (sym (refused n _ _ t), (sym (refused n _ _ t), (sym (refused n _ _ t), sym (refused n _ _ t), sym (refused n _ _ t)))))
 
-slice-relend-prefix-one-block-on : tie.Need-slice-relend-prefix-one-block-on
-slice-relend-prefix-one-block-on c = search needs
-
 slice-aggregate-one-block-on : tie.Need-slice-aggregate-one-block-on
-slice-aggregate-one-block-on c = sym (long (S (c .before)))
+slice-aggregate-one-block-on c = search needs
 
 slice-aggregate-one-block-on-2 : tie.Need-slice-aggregate-one-block-on-2
 slice-aggregate-one-block-on-2 c = search needs
@@ -67,9 +60,6 @@ slice-aggregate-one-block-on-3 c = search needs
 
 slice-aggregate-one-block-on-4 : tie.Need-slice-aggregate-one-block-on-4
 slice-aggregate-one-block-on-4 c = search needs
-
-slice-aggregate-one-block-on-5 : tie.Need-slice-aggregate-one-block-on-5
-slice-aggregate-one-block-on-5 c = search needs
 
 one-block-on-requires : tie.Need-one-block-on-requires
 one-block-on-requires c κs = (fitted (c .before .before .before .before .before) .aimed, (refl, refl, refl, refl))
@@ -81,8 +71,8 @@ put-slopes-requires : tie.Need-put-slopes-requires
 put-slopes-requires c κs =
     let e = c .before .before .before .before .before .before .before .before .before .before .before .before .before .before .before in
     let t = fitted e in
-    let g = c .before .before .before .before .before .before .before .before .before .one-block-on in
-    (omega (arith, t .few, long (S e), g .kept .1 .1 .1 .1 .1 .1 .1 .0), t .value-room, omega (arith, t .slopes-room, long (S e)))
+    let g = c .before .before .before .before .before .before .before .before .before .one-block-on .kept .1 .1 .1 .1 .1 .1 in
+    (omega (arith, t .few, g .0, g .1 .0), t .value-room, omega (arith, t .slopes-room, g .0))
 
 entries-requires : tie.Need-entries-requires
 entries-requires c κs =
@@ -134,12 +124,12 @@ returns-2 c =
     let g = c .before .before .before .before .before .before .before .before .before .before .before .before .before .before .before .before .before .before .before .before .before .before .before .before .before .before .before .before .one-block-on .ensures in
     let p = c .before .before .before .before .before .before .before .before .before .before .before .before .before .before .before .before .before .before .put-slopes .ensures in
     let q = c .before .before .before .before .before .before .put-record .ensures in
-    let l = gradient-slopes-length (sheet s) (now (a .goals)) (now (a .history)) (block s) ∙ long s in (
+    let l = slopes-in-length EachLoss (sheet s) (now (a .goals)) (now (a .history)) (block s) ∙ sym (ap length (g .1 .0)) in (
       sym (sym (e .before .one-block-number .ensures) ∙ e .if1 .left),
       (
         p .0 ∙ ap (λ (v : Float). splice (now (a .value)) 0 (bytesOf (v ∷ []))) (g .0) ∙ sym (taken 0 _ _ refl),
         (
-          p .1 ∙ ap (λ (y : List Float). splice (now (a .slopes)) 0 (bytesOf y)) (front _ _ _ (a .n) (g .1 .1 .0) l) ∙ sym (taken 0 _ _ refl),
+          p .1 ∙ ap (λ (y : List Float). splice (now (a .slopes)) 0 (bytesOf y)) (front _ _ _ _ (g .1 .1 .0) l) ∙ sym (taken 0 _ _ refl),
           (
             q .0 ∙ ap (λ (y : List ℕ). splice (now (a .record-joints)) 0 (bytesOfNumbers y)) (front _ _ (jointsIn (sheet s)) _ (g .1 .1 .1 .0) (joints-in-length (sheet s) ∙ sym m)) ∙ sym (taken 0 _ _ refl),
             q .1 .0 ∙ ap (λ (y : List ℕ). splice (now (a .record-links)) 0 (bytesOfNumbers y)) (front _ _ (linksIn (sheet s)) _ (g .1 .1 .1 .1) (links-in-length (sheet s) ∙ sym m)) ∙ sym (taken 0 _ _ refl),
@@ -154,17 +144,13 @@ pub gradient-one-block-spec : {M : Type 1} → statement M
 gradient-one-block-spec =
     tie.close
     (tie.spec
-    slice-reshare-prefix-one-block-number
-    slice-aggregate-one-block-number
     one-block-number-requires
     same-length
     returns
-    slice-relend-prefix-one-block-on
     slice-aggregate-one-block-on
     slice-aggregate-one-block-on-2
     slice-aggregate-one-block-on-3
     slice-aggregate-one-block-on-4
-    slice-aggregate-one-block-on-5
     one-block-on-requires
     slice-aggregate-put-slopes
     put-slopes-requires

@@ -1,97 +1,64 @@
 -- `one_block_on` meets its contract: the gradient and the record of what the history and the sheet give.
-use mathlib.Core.Path.{_≡_, sym, ap, _∙_, subst}
+use mathlib.Core.Path.{_≡_, refl, ap, _∙_}
 use mathlib.Core.List.{List}
-use Prim.Native.Nat.{ℕ, _*_, _≤_}
+use Prim.Native.Nat.{ℕ, _≤_}
 use native.Mathlib.Omega.{arith}
 use denote.Ref.{now}
 use lib.Ieee.{Float}
-use lib.ListN.{length}
 use Rattle.lists.specs.Splice.{splice}
-use Rattle.objective_master.specs.Losses.{given}
 use Rattle.gradient.specs.Gradient.{valueAt, gradientOf}
-use Rattle.gradient.specs.Ready.{Ready}
 use Rattle.one_block.specs.Record.{entriesOf, recordJoints, recordLinks, recordPoses}
-use Rattle.lent_bytes.specs.SheetLists.{SheetLists, sheetWith, same-two}
-use Rattle.objective_bytes.specs.ObjectiveCalls.{blockFrom, givenIn, valueIn, gradientSlopes}
-use Rattle.objective_bytes.specs.ObjectiveLaws.{Taken, aimed-taken, eight-weights, same-given}
+use Rattle.lent_bytes.specs.SheetLists.{SheetLists, sheetWith}
+use Rattle.objective_bytes.specs.ObjectiveCalls.{valueIn, slopesIn}
+use Rattle.objective_bytes.specs.ObjectiveLaws.{Taken, aimed-taken, fit-taken, laid-taken, ready-taken}
 use Rattle.one_block_bytes.specs.OneBlockCalls.{entriesIn, jointsIn, linksIn, posesIn}
 use Rattle.one_block_bytes.specs.OneBlockLaws.{aimed-counted}
 use borrow.Author.Needs.{needs}
 use Rattle.one_block_bytes.proofs.one_block_lists.one_block_on.Statement.{statement}
 use Rattle.one_block_bytes.proofs.one_block_lists.one_block_on.Tie as tie
+use Rattle.objective_bytes.proofs.objective_lists.lay_task.Reads as lay-task-reads
+use Rattle.one_block.proofs.grad.gradient.Reads as gradient-reads
+use Rattle.refusals.proofs.shape.links.Reads as links-reads
 
 abbrev sheet : tie.Start → SheetLists
 sheet s = sheetWith (now (s .args .sizes)) (now (s .args .codes)) (now (s .args .floats)) (now (s .args .limits))
 
-abbrev goals : tie.Start → List Float
-goals s = now (s .args .goals)
-
-abbrev history : tie.Start → List Float
-history s = now (s .args .history)
-
 abbrev block : tie.Start → List Float
 block s = now (s .args .block)
 
-known : (s : tie.Start) → Taken (sheet s) (goals s) (history s) (block s)
-known s = aimed-taken (sheet s) (goals s) (history s) (block s) (s .pre .0)
+known : (s : tie.Start) → Taken (sheet s) (now (s .args .goals)) (now (s .args .history)) (block s)
+known s = aimed-taken (sheet s) _ _ (block s) (s .pre .0)
 
--- what the call below is given is what the definition says
-abbrev S : tie.After-block-from3 → tie.Start
-S c = c .before .before .before .before .before .before .before .before .before .before .before .before .before .before .before .before
-
-same : (c : tie.After-block-from3)
-    → given (now (c .before .before .before .links .result)) (now (S c .args .codes)) (now (S c .args .limits)) (goals (S c)) (now (c .before .before .block-from .result)) (now (c .before .block-from2 .result)) (now (c .block-from3 .result))
-    ≡ givenIn (sheet (S c)) (goals (S c)) (history (S c))
-same c =
-    let n = known (S c) .block in
-    same-given _ _ _ (c .before .before .before .links .ensures)
-    (c .before .before .block-from .ensures ∙ ap (λ (k : ℕ). blockFrom 0 k (history (S c))) n)
-    (c .before .block-from2 .ensures ∙ ap (λ (k : ℕ). blockFrom k k (history (S c))) n)
-    (c .block-from3 .ensures ∙ ap (λ (k : ℕ). blockFrom (2 * k) k (history (S c))) n)
-
-ready : (c : tie.After-block-from3)
-    → Ready (given (now (c .before .before .before .links .result)) (now (S c .args .codes)) (now (S c .args .limits)) (goals (S c)) (now (c .before .before .block-from .result)) (now (c .before .block-from2 .result)) (now (c .block-from3 .result))) (now (S c .args .floats)) (block (S c))
-ready c = subst (λ g. Ready g (now (S c .args .floats)) (block (S c))) (sym (same c)) (known (S c) .ready)
+abbrev S : tie.After-links → tie.Start
+S c = c .before .before .before .before .before .before .before .before .before .before .before .before
 
 -- the local lists have room for every record
-few : (c : tie.After-block-from3) → entriesOf (now (c .before .before .before .links .result)) (now (S c .args .codes)) ≤ 320
+few : (c : tie.After-links) → entriesOf (now (c .links .result)) (now (S c .args .codes)) ≤ 320
 few c =
-    let e : entriesOf (now (c .before .before .before .links .result)) (now (S c .args .codes)) ≡ entriesIn (sheet (S c)) =
-    ap (λ (ns : List ℕ). entriesOf ns (now (S c .args .codes))) (c .before .before .before .links .ensures) in
+    let e : entriesOf (now (c .links .result)) (now (S c .args .codes)) ≡ entriesIn (sheet (S c)) = ap (λ (ns : List ℕ). entriesOf ns (now (S c .args .codes))) (c .links .ensures) in
     omega (arith, e, aimed-counted (sheet (S c)) _ _ _ (S c .pre .0) .entries)
-
-weight-priors-requires : tie.Need-weight-priors-requires
-weight-priors-requires c κs = search needs
 
 links-requires : tie.Need-links-requires
 links-requires c κs = search needs
 
-block-from-requires : tie.Need-block-from-requires
-block-from-requires c κs = let t = known (c .before .before .before .before .before .before .before .before .before .before .before .before .before) in omega (arith, t .block, t .blocks)
+slice-aggregate-lay-task : tie.Need-slice-aggregate-lay-task
+slice-aggregate-lay-task c = search needs
 
-block-from-requires-2 : tie.Need-block-from-requires-2
-block-from-requires-2 c κs = let t = known (c .before .before .before .before .before .before .before .before .before .before .before .before .before .before) in omega (arith, t .block, t .blocks)
-
-mul-block-from : tie.Need-mul-block-from
-mul-block-from c = search needs
-
-block-from-requires-3 : tie.Need-block-from-requires-3
-block-from-requires-3 c κs = let t = known (c .before .before .before .before .before .before .before .before .before .before .before .before .before .before .before) in omega (arith, t .block, t .blocks)
+lay-task-requires : tie.Need-lay-task-requires
+lay-task-requires c κs =
+    let t = known (c .before .before .before .before .before .before .before .before .before .before .before .before .before) in
+    ((refl, omega (arith, t .block, t .few), omega (arith, t .block, t .blocks)), fit-taken _ _ _ _ t)
 
 slice-aggregate-gradient : tie.Need-slice-aggregate-gradient
 slice-aggregate-gradient c = search needs
 
 gradient-requires : tie.Need-gradient-requires
 gradient-requires c κs =
-    let e = c .before .before .before .before .before .before in
-    let s = S e in
+    let s = c .before .before .before .before .before .before .before .before .before .before .before .before .before .before .before .before .before .before .before .before .before in
     let t = known s in
-    let n = few e in (
-      ready e,
-      (
-        record { joints-room = omega (arith, n, s .pre .1); links-room = omega (arith, n, s .pre .1); frames-room = omega (arith, n, s .pre .1) },
-        (ap length (c .before .before .before .before .before .before .before .before .before .before .weight-priors .ensures) ∙ eight-weights, omega (arith, s .pre .1, t .block, t .few)),
-      ),
+    let n = few (c .before .before .before .before .before .before .before .before .before) in (
+      (ready-taken (sheet s) _ _ _ t _ _ (c .before .before .before .before .before .before .before .before .before .links .ensures) (c .before .before .before .before .before .before .before .lay-task .kept .1 .1 .1 .1 .0), omega (arith, s .pre .1, t .block, t .few)),
+      record { joints-room = omega (arith, n, s .pre .1); links-room = omega (arith, n, s .pre .1); frames-room = omega (arith, n, s .pre .1) },
     )
 
 same-length : tie.Need-same-length
@@ -110,20 +77,19 @@ same-length-5 : tie.Need-same-length-5
 same-length-5 c = search needs
 
 returns : tie.Need-returns
-unfolding valueIn gradientSlopes jointsIn linksIn posesIn
+unfolding valueIn slopesIn jointsIn linksIn posesIn
 returns c =
-    let s = c .before .before .before .before .before .before .before .before .before .before .before .before .before .before .before .before .before .before .before .before .before .before .before .before .before .before .before .before .before .before .before .before .before in
+    let s = c .before .before .before .before .before .before .before .before .before .before .before .before .before .before .before .before .before .before .before .before .before .before .before .before .before .before .before .before .before .before .before .before in
     let a = s .args in
     let cs = now (a .codes) in
-    let w = c .before .before .before .before .before .before .before .before .before .before .before .before .before .before .before .before .before .before .before .before .before .weight-priors .ensures in
     let l = c .before .before .before .before .before .before .before .before .before .before .before .before .before .before .before .before .before .before .before .before .links .ensures in
-    let g = same (c .before .before .before .before .before .before .before .before .before .before .before .before .before .before .before .before .before) in
+    let g = laid-taken (sheet s) _ _ _ (known s) _ _ _ l refl (c .before .before .before .before .before .before .before .before .before .before .before .before .before .before .before .before .before .before .lay-task .ensures) in
     let e = c .before .before .before .before .before .before .before .before .before .before .gradient .ensures in (
-      e .0 ∙ same-two (λ ws g′. valueAt ws g′ (now (a .floats)) (block s)) w g,
+      e .0 ∙ ap (λ g′. valueAt g′ (now (a .floats)) (block s)) g,
       (
         e .1 .1 .0,
         (
-          e .1 .0 ∙ same-two (λ ws g′. splice (now (a .slopes)) 0 (gradientOf ws g′ (now (a .floats)) (block s))) w g,
+          e .1 .0 ∙ ap (λ g′. splice (now (a .slopes)) 0 (gradientOf g′ (now (a .floats)) (block s))) g,
           (
             e .1 .1 .1 .0 .0 ∙ ap (λ (ns : List ℕ). splice (now (a .record-joints)) 0 (recordJoints ns cs)) l,
             e .1 .1 .1 .0 .1 ∙ ap (λ (ns : List ℕ). splice (now (a .record-links)) 0 (recordLinks ns cs)) l,
@@ -137,12 +103,9 @@ pub one-block-on-spec : {M : Type 1} → statement M
 one-block-on-spec =
     tie.close
     (tie.spec
-    weight-priors-requires
     links-requires
-    block-from-requires
-    block-from-requires-2
-    mul-block-from
-    block-from-requires-3
+    slice-aggregate-lay-task
+    lay-task-requires
     slice-aggregate-gradient
     gradient-requires
     same-length

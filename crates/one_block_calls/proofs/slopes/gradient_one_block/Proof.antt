@@ -13,7 +13,7 @@ use Rattle.one_block_calls.proofs.slopes.gradient_one_block.Statement.{
 use Rattle.one_block_calls.proofs.slopes.gradient_one_block.Tie as tie
 
 abbrev S : tie.Else1 → tie.Start
-S c = c .before .before .before .before .before .before .before .before .before .before .before .before .before .before .before .before .before
+S c = c .before .before .before .before .before .before .before .before .before .before .before .before
 
 -- a number that is not 0 is a refusal, and only 0 goes on
 stopped : (c : tie.Then1) → c .before .one-block-refusal .result ≡ 0 → ⊥
@@ -27,7 +27,7 @@ number : (c : tie.Else1) → oneBlockRefusal (now (S c .args .sizes)) (now (S c 
 number c = sym (c .before .one-block-refusal .ensures) ∙ goes-on c
 
 one-block-refusal-requires : tie.Need-one-block-refusal-requires
-one-block-refusal-requires c κs = c .before .before .before .before .before .before .before .before .before .before .before .before .before .before .before .pre .arms
+one-block-refusal-requires c κs = c .before .before .before .before .before .before .before .before .before .before .pre .arms
 
 same-length : tie.Need-same-length
 same-length c = search needs
@@ -44,7 +44,7 @@ gradient-requires c κs =
     let e = c .before .before .before .before .before in
     let s = S e in
     let p = one-block-passed _ _ _ (now (s .args .slopes)) (now (s .args .record-joints)) (now (s .args .record-links)) (now (s .args .record-poses)) (number e) in
-    (ready-of _ _ _ _ (s .pre) (p .0), (p .2, (s .pre .eight, p .1)))
+    ((ready-of _ _ _ _ _ (s .pre) (p .0), p .1), p .2)
 
 same-length-2 : tie.Need-same-length-2
 same-length-2 c = search needs

@@ -1,60 +1,38 @@
--- `gradient_one_block` meets its contract: the arrays of the state are lent whole, with the built-in weights.
-use mathlib.Core.Path.{_≡_, sym, ap, _∙_}
-use mathlib.Core.List.{List}
-use lib.Ieee.{Float}
-use lib.ListN.{length}
+-- `gradient_one_block` meets its contract: the list is laid of the state's arrays.
+use mathlib.Core.Path.{refl, _∙_}
 use denote.Ref.{now}
-use Rattle.lists.specs.Splice.{splice}
-use Rattle.gradient.specs.Gradient.{valueAt, gradientOf}
-use Rattle.calls.specs.Arms.{ifTaken}
-use Rattle.calls.specs.Answer.{numberOf, valueIf}
-use Rattle.relaxed_ik.specs.declared.state.State.{State}
-use Rattle.relaxed_ik.specs.Objective.{givenOf, linkFloats, weights-eight}
-use Rattle.relaxed_ik.specs.Aim.{Arrays}
+use Rattle.gradient.specs.declared.slopes.Rule.the-variants.{EachLoss}
+use Rattle.relaxed_ik.specs.Objective.{Lists, value-laid, slopes-laid}
+use Rattle.relaxed_ik.specs.OneBlock.{oneBlockKept}
 use borrow.Author.Needs.{needs}
 use Rattle.relaxed_ik.proofs.one_block_slopes.gradient_one_block.Statement.{statement}
 use Rattle.relaxed_ik.proofs.one_block_slopes.gradient_one_block.Tie as tie
 
-eight : (c : tie.After-weight-priors) → length (c .weight-priors .result) ≡ 8
-eight c = ap length (c .weight-priors .ensures) ∙ weights-eight
+lists : (s : tie.Start) → Lists (s .args .state)
+lists s = search needs
 
--- the lengths of the state's arrays
-arrays : (s : tie.Start) → let a = s .args .state .arms in let p = s .args .state .party in
-    Arrays (a .sizes) (a .codes) (a .floats) (a .limits) (p .goals) (p .history .xopt) (p .history .«prev_state») (p .history .«prev_state2»)
-arrays s = search needs
+slice-aggregate-lay-task : tie.Need-slice-aggregate-lay-task
+slice-aggregate-lay-task c = search needs
 
-weight-priors-requires : tie.Need-weight-priors-requires
-weight-priors-requires c κs = search needs
+lay-task-requires : tie.Need-lay-task-requires
+lay-task-requires c κs = search needs
 
 slice-aggregate-gradient-one-block-on : tie.Need-slice-aggregate-gradient-one-block-on
-slice-aggregate-gradient-one-block-on c = sym (eight (c .before))
+slice-aggregate-gradient-one-block-on c = search needs
 
 slice-aggregate-gradient-one-block-on-2 : tie.Need-slice-aggregate-gradient-one-block-on-2
-slice-aggregate-gradient-one-block-on-2 c = sym (arrays (c .before .before .before .before .before .before .before .before .before .before .before .before .before .before .before .before .before .before .before) .sizes)
+slice-aggregate-gradient-one-block-on-2 c = search needs
 
 slice-aggregate-gradient-one-block-on-3 : tie.Need-slice-aggregate-gradient-one-block-on-3
-slice-aggregate-gradient-one-block-on-3 c = sym (arrays (c .before .before .before .before .before .before .before .before .before .before .before .before .before .before .before .before .before .before .before .before) .codes)
+slice-aggregate-gradient-one-block-on-3 c = search needs
 
 slice-aggregate-gradient-one-block-on-4 : tie.Need-slice-aggregate-gradient-one-block-on-4
-slice-aggregate-gradient-one-block-on-4 c = sym (arrays (c .before .before .before .before .before .before .before .before .before .before .before .before .before .before .before .before .before .before .before .before .before) .floats)
-
-slice-aggregate-gradient-one-block-on-5 : tie.Need-slice-aggregate-gradient-one-block-on-5
-slice-aggregate-gradient-one-block-on-5 c = sym (arrays (c .before .before .before .before .before .before .before .before .before .before .before .before .before .before .before .before .before .before .before .before .before .before) .pairs)
-
-slice-aggregate-gradient-one-block-on-6 : tie.Need-slice-aggregate-gradient-one-block-on-6
-slice-aggregate-gradient-one-block-on-6 c = sym (arrays (c .before .before .before .before .before .before .before .before .before .before .before .before .before .before .before .before .before .before .before .before .before .before .before) .each)
-
-slice-aggregate-gradient-one-block-on-7 : tie.Need-slice-aggregate-gradient-one-block-on-7
-slice-aggregate-gradient-one-block-on-7 c = sym (arrays (c .before .before .before .before .before .before .before .before .before .before .before .before .before .before .before .before .before .before .before .before .before .before .before .before) .now₀)
-
-slice-aggregate-gradient-one-block-on-8 : tie.Need-slice-aggregate-gradient-one-block-on-8
-slice-aggregate-gradient-one-block-on-8 c = sym (arrays (c .before .before .before .before .before .before .before .before .before .before .before .before .before .before .before .before .before .before .before .before .before .before .before .before .before) .now₁)
-
-slice-aggregate-gradient-one-block-on-9 : tie.Need-slice-aggregate-gradient-one-block-on-9
-slice-aggregate-gradient-one-block-on-9 c = sym (arrays (c .before .before .before .before .before .before .before .before .before .before .before .before .before .before .before .before .before .before .before .before .before .before .before .before .before .before) .now₂)
+slice-aggregate-gradient-one-block-on-4 c = search needs
 
 gradient-one-block-on-requires : tie.Need-gradient-one-block-on-requires
-gradient-one-block-on-requires c κs = (arrays (c .before .before .before .before .before .before .before .before .before .before .before .before .before .before .before .before .before .before .before .before .before .before .before .before .before .before .before .before .before .before .before), eight (c .before .before .before .before .before .before .before .before .before .before .before .before .before .before))
+gradient-one-block-on-requires c κs =
+    let l = lists (c .before .before .before .before .before .before .before .before .before .before .before .before .before .before .before .before .before .before .before .before .before .before .before .before) in
+    record { sizes = l .sizes; codes = l .codes; floats = l .floats; whole = c .before .before .before .before .before .before .before .before .before .before .lay-task .kept .1 .1 .0 }
 
 same-length : tie.Need-same-length
 same-length c = search needs
@@ -72,19 +50,20 @@ same-length-5 : tie.Need-same-length-5
 same-length-5 c = search needs
 
 returns : tie.Need-returns
+unfolding oneBlockKept
 returns c =
     let m = c .before .before .before .before .before .before .before .before .before .before .gradient-one-block-on in
-    let a = c .before .before .before .before .before .before .before .before .before .before .before .before .before .before .before .before .before .before .before .before .before .before .before .before .before .before .before .before .before .before .before .before .before .before .before .before .before .before .before .before .before .before .args in
-    let g : State = a .state in
+    let s = c .before .before .before .before .before .before .before .before .before .before .before .before .before .before .before .before .before .before .before .before .before .before .before .before .before .before .before .before .before .before .before .before .before .before .before in
+    let a = s .args in
     let x = now (a .block) in
-    let e = c .before .before .before .before .before .before .before .before .before .before .before .before .before .before .before .before .before .before .before .before .before .before .before .before .before .weight-priors .ensures in (
+    let e = c .before .before .before .before .before .before .before .before .before .before .before .before .before .before .before .before .before .before .before .before .before .lay-task .ensures in (
       m .ensures .0,
       (
-        (m .ensures .1 .0 .0 ∙ ap (λ (ws : List Float). valueIf (numberOf (m .result)) (valueAt ws (givenOf g) (linkFloats g) x)) e, m .ensures .1 .0 .1),
+        (m .ensures .1 .0 .0 ∙ value-laid (a .state) _ _ (lists s) refl e x _ _ (m .ensures .0), m .ensures .1 .0 .1),
         (
           m .ensures .1 .1 .0,
           (
-            m .ensures .1 .1 .1 .0 ∙ ap (λ (ws : List Float). ifTaken (numberOf (m .result)) (now (a .slopes)) (splice (now (a .slopes)) 0 (gradientOf ws (givenOf g) (linkFloats g) x))) e,
+            m .ensures .1 .1 .1 .0 ∙ slopes-laid (a .state) _ _ (lists s) refl e x _ _ (m .ensures .0) EachLoss (now (a .slopes)),
             m .ensures .1 .1 .1 .1,
           ),
         ),
@@ -95,16 +74,12 @@ pub gradient-one-block-spec : {M : Type 1} → statement M
 gradient-one-block-spec =
     tie.close
     (tie.spec
-    weight-priors-requires
+    slice-aggregate-lay-task
+    lay-task-requires
     slice-aggregate-gradient-one-block-on
     slice-aggregate-gradient-one-block-on-2
     slice-aggregate-gradient-one-block-on-3
     slice-aggregate-gradient-one-block-on-4
-    slice-aggregate-gradient-one-block-on-5
-    slice-aggregate-gradient-one-block-on-6
-    slice-aggregate-gradient-one-block-on-7
-    slice-aggregate-gradient-one-block-on-8
-    slice-aggregate-gradient-one-block-on-9
     gradient-one-block-on-requires
     same-length
     same-length-2

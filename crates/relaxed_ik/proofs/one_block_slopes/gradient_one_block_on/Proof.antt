@@ -7,21 +7,21 @@ use lib.Ieee.{nan}
 use lib.ListN.{length}
 use lib.Seq.{length-take-le}
 use Rattle.lists.specs.Splice.{splice}
-use Rattle.objective_master.specs.Losses.{given}
+use Rattle.task.specs.Task.{givenOf}
 use Rattle.gradient.specs.Gradient.{valueAt, gradientOf}
 use Rattle.one_block.specs.Record.{recordJoints, recordLinks, recordPoses}
 use Rattle.calls.specs.Arms.{ifTaken, refused}
 use Rattle.calls.specs.Answer.{numberOf, valueIf, value-refused, answer-refused}
 use Rattle.one_block_calls.specs.Room.{oneBlockRefusal}
-use Rattle.relaxed_ik.specs.Kept.{Used, parts-are}
-use Rattle.relaxed_ik.specs.Aim.{givenKept, aim-refused, aim-passed, aim-used, aimed-parts}
+use Rattle.relaxed_ik.specs.StoredSheet.{Used, parts-are}
+use Rattle.relaxed_ik.specs.StoredTask.{givenKept, aim-refused, aim-passed, aim-used, aimed-parts}
 use Rattle.relaxed_ik.specs.OneBlock.{oneBlockKept}
 use borrow.Author.Needs.{needs}
 use Rattle.relaxed_ik.proofs.one_block_slopes.gradient_one_block_on.Statement.{statement}
 use Rattle.relaxed_ik.proofs.one_block_slopes.gradient_one_block_on.Tie as tie
 
 abbrev S : tie.Else1 → tie.Start
-S c = c .before .before .before .before .before .before .before .before .before .before .before .before .before .before .before .before .before
+S c = c .before .before .before .before .before .before .before .before .before .before .before .before
 
 U : (c : tie.Else1) → Used (now (S c .args .sizes)) (now (S c .args .codes)) (c .before .before .in-use .result)
 U c = aim-used _ _ _ (c .before .before .in-use .ensures) _ _ _ (c .before .aim-refusal .ensures) (c .if1 .left)
@@ -69,7 +69,7 @@ slice-aggregate-gradient-one-block-2 c =
 gradient-one-block-requires : tie.Need-gradient-one-block-requires
 gradient-one-block-requires c κs =
     let e = c .before .before .before .before .before .before .before .before .before in
-    aimed-parts _ _ _ _ _ _ _ _ _ (S e .pre .0) (S e .pre .1) _ (U e)
+    aimed-parts _ _ _ _ (S e .pre) _ (U e)
 
 same-length : tie.Need-same-length
 same-length c = search needs
@@ -103,7 +103,7 @@ returns-2 c =
         (
           m .ensures .1 .0 .0
               ∙ parts-are (now (a .sizes)) (now (a .codes)) (now (a .floats)) n (U e)
-              (λ ns ks gs. valueIf (numberOf (m .result)) (valueAt (now (a .weights)) (given ns ks (now (a .limits)) (now (a .goals)) (now (a .xopt)) (now (a .prev-state)) (now (a .prev-state2))) gs x)),
+              (λ ns ks gs. valueIf (numberOf (m .result)) (valueAt (givenOf ns ks (now (a .task))) gs x)),
           m .ensures .1 .0 .1,
         ),
         (
@@ -112,7 +112,7 @@ returns-2 c =
             m .ensures .1 .1 .1 .0
                 ∙ parts-are (now (a .sizes)) (now (a .codes)) (now (a .floats)) n (U e)
                 (λ ns ks gs. ifTaken (numberOf (m .result)) (now (a .slopes)) (splice (now (a .slopes)) 0
-                (gradientOf (now (a .weights)) (given ns ks (now (a .limits)) (now (a .goals)) (now (a .xopt)) (now (a .prev-state)) (now (a .prev-state2))) gs x))),
+                (gradientOf (givenOf ns ks (now (a .task))) gs x))),
             (
               r .0
                   ∙ parts-are (now (a .sizes)) (now (a .codes)) (now (a .floats)) n (U e)

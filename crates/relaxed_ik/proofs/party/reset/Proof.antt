@@ -3,7 +3,7 @@ use mathlib.Core.Path.{_≡_, sym, _∙_}
 use borrow.Author.Tests.{ne-eqb}
 use Rattle.calls.specs.Arms.{taken}
 use Rattle.relaxed_ik.specs.Load.{outcomeOf}
-use Rattle.relaxed_ik.specs.Kept.{blockKept, pose-kept}
+use Rattle.relaxed_ik.specs.StoredSheet.{blockKept, pose-kept}
 use Rattle.relaxed_ik.specs.Party.{withStart, resetStateOf, block-fits}
 use borrow.Author.Needs.{needs}
 use Rattle.relaxed_ik.proofs.party.reset.Statement.{statement}

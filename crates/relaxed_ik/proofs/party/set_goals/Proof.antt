@@ -2,7 +2,7 @@
 use mathlib.Core.Path.{_≡_, sym, _∙_}
 use borrow.Author.Tests.{ne-eqb}
 use Rattle.relaxed_ik.specs.Load.{outcomeOf}
-use Rattle.relaxed_ik.specs.Kept.{goalsKept}
+use Rattle.relaxed_ik.specs.StoredSheet.{goalsKept}
 use Rattle.relaxed_ik.specs.Party.{withGoals, setGoalsOf, goals-fit}
 use borrow.Author.Needs.{needs}
 use Rattle.relaxed_ik.proofs.party.set_goals.Statement.{statement}

@@ -2,7 +2,7 @@
 use mathlib.Core.Path.{_≡_, sym, _∙_}
 use borrow.Author.Tests.{ne-eqb}
 use Rattle.relaxed_ik.specs.Load.{outcomeOf}
-use Rattle.relaxed_ik.specs.Kept.{updateKept}
+use Rattle.relaxed_ik.specs.StoredSheet.{updateKept}
 use Rattle.relaxed_ik.specs.Party.{withBlock, updateStateOf, update-fits}
 use borrow.Author.Needs.{needs}
 use Rattle.relaxed_ik.proofs.party.update.Statement.{statement}

@@ -1,0 +1,72 @@
+-- `put_goals` meets its contract: turn after turn one chain more.
+use mathlib.Core.Path.{_≡_, refl, sym, ap, _∙_}
+use mathlib.Core.List.{List}
+use Prim.Native.Nat.{ℕ, _+_, _-_, _*_, _≤_}
+use native.Mathlib.Omega.{arith}
+use denote.Ref.{now}
+use lib.ListN.{length}
+use Rattle.lists.specs.Splice.{splice, length-splice}
+use Rattle.lists.specs.Runs.{runs, length-runs, splice-none, splice-turn-at}
+use Rattle.objective_master.specs.Kinds.{goalKinds, goal-kinds}
+use Rattle.objective_master.proofs.relaxed_ik.put_goals.Statement.{statement}
+use Rattle.objective_master.proofs.relaxed_ik.put_goals.Tie as tie
+use Rattle.objective_master.proofs.relaxed_ik.put_goal.Reads as put-goal-reads
+
+abbrev Inv-loop : tie.InvT-loop
+Inv-loop chains kinds₀ c₀ kinds c = (c ≤ chains) × (length kinds ≡ length kinds₀) × (kinds ≡ splice kinds₀ 0 (runs (λ _. goalKinds) 0 c))
+
+abbrev μ-loop : tie.MeasureT-loop
+μ-loop chains kinds₀ c₀ kinds c = chains - c
+
+loop-holds : tie.Need-loop-holds Inv-loop μ-loop
+loop-holds c = (omega arith, refl, splice-none (λ _. goalKinds) _ 0 0)
+
+mul-put-goal : tie.Need-mul-put-goal Inv-loop μ-loop
+mul-put-goal c = omega arith
+
+put-goal-requires : tie.Need-put-goal-requires Inv-loop μ-loop
+put-goal-requires c κs = omega arith
+
+add-c : tie.Need-add-c Inv-loop μ-loop
+add-c c = omega arith
+
+loop-less : tie.Need-loop-less Inv-loop μ-loop
+loop-less c = omega arith
+
+loop-again : tie.Need-loop-again Inv-loop μ-loop
+loop-again c =
+    let p = c .before .before in
+    let l = p .before .before .before in
+    let a = l .before .before .args in
+    let f : ℕ → List ℕ = λ _. goalKinds in
+    let k = l .loop .c in
+    let n : length (runs f 0 k) ≡ k * 6 = length-runs f 6 (λ _. goal-kinds) 0 k in (
+      omega arith,
+      ap length (p .put-goal .ensures) ∙ length-splice (l .loop .kinds) (6 * k) goalKinds (omega (arith, goal-kinds, l .loop .inv .1)) ∙ l .loop .inv .1,
+      splice-turn-at f (now (a .kinds)) (l .loop .kinds) _ 0 (6 * k) k (l .loop .inv .2) (omega arith) (omega arith) (p .put-goal .ensures),
+    )
+
+same-length : tie.Need-same-length Inv-loop μ-loop
+same-length c = c .before .loop .inv .1
+
+returns : tie.Need-returns Inv-loop μ-loop
+returns c =
+    let l = c .before in
+    let a = l .before .before .args in
+    let e : l .loop .c ≡ a .chains = omega arith in
+    l .loop .inv .2 ∙ ap (λ (k : ℕ). splice (now (a .kinds)) 0 (runs (λ _. goalKinds) 0 k)) e
+
+pub put-goals-spec : {M : Type 1} → statement M
+put-goals-spec =
+    tie.close
+    (tie.spec
+    Inv-loop
+    μ-loop
+    loop-holds
+    mul-put-goal
+    put-goal-requires
+    add-c
+    loop-less
+    loop-again
+    same-length
+    returns)

@@ -1,0 +1,75 @@
+// `ObjectiveMaster::relaxed_ik`: the list of objectives in the source's order, each by the number of its kind.
+use crate::count;
+use sheet::chain;
+ghost use mathlib.Core.Path.{_≡_};
+ghost use Prim.Native.Nat.{_+_, _*_, _≤_};
+ghost use lib.ListN.{length};
+ghost use Rattle.lists.specs.Splice.{splice};
+ghost use Rattle.lists.specs.Runs.{runs};
+ghost use Rattle.manipulability.specs.Jacobian.{Counted};
+ghost use Rattle.self_collision.specs.Pairs.{chainLengths};
+ghost use Rattle.objective_master.specs.Objective.{objectives};
+ghost use Rattle.objective_master.specs.Kinds.{goalKinds, motionKinds, onlyKind, kindsOf};
+
+// Of a chain's goal: three positions, three rotations.
+const GOAL_KINDS: [u16; 6] = [0, 0, 0, 1, 1, 1];
+
+// Of all joints: velocity, acceleration, jerk, manipulability.
+const MOTION_KINDS: [u16; 4] = [3, 4, 5, 6];
+
+// n objectives of one kind.
+fn put_kind(kind: u16, n: usize, at: usize, kinds: &mut [u16])
+    requires { ⌜ at + n ≤ length (now kinds) ⌝ }
+    ensures { λ _. ⌜ now (kinds .exit) ≡ splice (now (kinds .entry)) at (runs (onlyKind kind) 0 n) ⌝ }
+{
+    let mut i: usize = 0;
+    while i < n {
+        kinds[at + i] = kind;
+        i += 1;
+    }
+}
+
+fn put_goal(at: usize, kinds: &mut [u16])
+    requires { ⌜ at + 6 ≤ length (now kinds) ⌝ }
+    ensures { λ _. ⌜ now (kinds .exit) ≡ splice (now (kinds .entry)) at goalKinds ⌝ }
+{
+    lists::copy_numbers(&GOAL_KINDS, &mut kinds[at..]);
+}
+
+// The goals of all chains.
+fn put_goals(chains: usize, kinds: &mut [u16])
+    requires { ⌜ 6 * chains ≤ length (now kinds) ⌝ }
+    ensures { λ _. ⌜ now (kinds .exit) ≡ splice (now (kinds .entry)) 0 (runs (λ _. goalKinds) 0 chains) ⌝ }
+{
+    let mut c: usize = 0;
+    while c < chains {
+        put_goal(6 * c, kinds);
+        c += 1;
+    }
+}
+
+fn put_motion(at: usize, kinds: &mut [u16])
+    requires { ⌜ at + 4 ≤ length (now kinds) ⌝ }
+    ensures { λ _. ⌜ now (kinds .exit) ≡ splice (now (kinds .entry)) at motionKinds ⌝ }
+{
+    lists::copy_numbers(&MOTION_KINDS, &mut kinds[at..]);
+}
+
+// Writes the list to the front of `kinds`, and answers its length.
+pub fn relaxed_ik(sizes: &[u16], codes: &[u16], kinds: &mut [u16]) -> usize
+    requires { ⌜ Counted (now sizes) (now codes) × (length (now sizes) ≤ 4) ⌝ }
+    requires { ⌜ length (objectives (chainLengths (now sizes) (now codes))) ≤ length (now kinds) ⌝ }
+    ensures { λ r. ⌜ r ≡ length (objectives (chainLengths (now (sizes .entry)) (now (codes .entry)))) ⌝ }
+    ensures { λ _. ⌜ now (kinds .exit) ≡ splice (now (kinds .entry)) 0 (kindsOf (now (sizes .entry)) (now (codes .entry))) ⌝ }
+{
+    let n = count::objective_count(sizes, codes);
+    let joints = chain::joint_number(codes, codes.len());
+    let limits = 6 * sizes.len();
+    let motion = limits + joints;
+    let pairs = motion + 4;
+    put_goals(sizes.len(), kinds);
+    put_kind(2, joints, limits, kinds);
+    put_motion(motion, kinds);
+    put_kind(7, n - pairs, pairs, kinds);
+    n
+}
