@@ -14,7 +14,8 @@ use Rattle.refusals.specs.Refusal.{chainsOf, linksOf, loadRefusal, blockRefusal
 use Rattle.calls.specs.Arms.{ifTaken}
 use Rattle.calls.specs.Frames.{framesRefusal, poseRefusal}
 use Rattle.lent_bytes.specs.Lent.{bytesOf}
-use Rattle.lent_bytes.specs.SheetLists.{LentList, lent, SheetLists}
+use Rattle.lists.specs.Lent.{lent, LentList}
+use Rattle.lent_bytes.specs.SheetLists.{SheetLists}
 
 -- ---- the numbers: those of loading, 1 to 6, then the call's own; 0 is accepted. Rooms are in floats.
 abbrev pub loadNumber : SheetLists → ℕ

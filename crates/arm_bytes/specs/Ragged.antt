@@ -12,20 +12,20 @@ use lib.ListN.{length, getD}
 use borrow.Author.Tests.{ne-eqb, lt-ltb}
 use Rattle.lists.specs.Runs.{runs}
 use Rattle.lists.specs.Listed.{listed}
-use Rattle.sheet.specs.Chain.{total, chainStart, jointOf, joints, joint-mono, joint-last, chain-start-mono, chain-start-total}
+use Rattle.sheet.specs.Chain.{total, chainStart, jointOf, joints, joint-mono, joint-last, chain-start-mono, chain-start-total, chainLength}
 use Rattle.refusals.specs.Lengths.{endsLength, historyLength, positions-sum, rotations-sum}
 use Rattle.refusals.specs.Lowest.{lowestFrom, lowest, firstOf, first-zero, first-some}
-use Rattle.refusals.specs.Refusal.{chainsOf, linksOf, badSizes, badLengths, badLimits, badFloats, badBlock, badHistory, badGoals, chainJoints, shapeRefusal, loadRefusal, blockRefusal, historyRefusal, goalsRefusal, roomRefusal}
+use Rattle.refusals.specs.Refusal.{chainsOf, linksOf, badSizes, badLengths, badLimits, badFloats, badBlock, badHistory, badGoals, shapeRefusal, loadRefusal, blockRefusal, historyRefusal, goalsRefusal, roomRefusal}
 use Rattle.refusals.specs.Passed.{Sizes, Shape, sizes-passed, load-first, load-passed, shape-passed}
 use Rattle.calls.specs.Frames.{framesRefusal, poseRefusal}
-use Rattle.lent_bytes.specs.Lent.{Misfit, numbersIn, floatsIn, roomIn, no-numbers, no-floats}
+use Rattle.lent_bytes.specs.Lent.{Misfit, numbersIn, floatsIn, roomIn, no-nans, no-floats}
 use Rattle.lent_bytes.specs.SheetLists.{SheetLists, sheetWith}
 use Rattle.arm_bytes.specs.ArmCalls.{loadNumber, setGoalsNumber, framesNumber, poseNumber, updateNumber, resetNumber, manipulabilityNumber}
 
 -- ---- the sheet's lists
 pub ragged-sizes : (b codes : List ℕ) (floats limits : List Float) → Misfit 2 5 (length b) → loadNumber (sheetWith (numbersIn 5 b) codes floats limits) ≡ 1
 unfolding loadRefusal lowest lowestFrom badSizes
-ragged-sizes b codes floats limits m = rw (no-numbers 5 b m)
+ragged-sizes b codes floats limits m = rw (no-nans 5 b m)
 
 first-le : (ns : List ℕ) → getD ns 0 0 ≤ total ns
 unfolding total
@@ -49,7 +49,7 @@ no-codes ns n h = rw (ne-eqb 0 (total ns) (λ z. omega arith))
 
 pub ragged-codes : (sizes b : List ℕ) (floats limits : List Float) → badSizes sizes ≡ false → Misfit 2 64 (length b)
     → loadNumber (sheetWith sizes (numbersIn 64 b) floats limits) ≡ 2
-ragged-codes sizes b floats limits e m = rw (no-numbers 64 b m) (two-first sizes [] floats limits e (no-codes (linksOf sizes) (length floats) (total-some sizes e)))
+ragged-codes sizes b floats limits e m = rw (no-nans 64 b m) (two-first sizes [] floats limits e (no-codes (linksOf sizes) (length floats) (total-some sizes e)))
 
 no-link-floats : (ns codes : List ℕ) → 1 ≤ total ns → badLengths ns codes 0 ≡ true
 unfolding badLengths
@@ -59,15 +59,15 @@ pub ragged-floats : (sizes codes b : List ℕ) (limits : List Float) → badSize
     → loadNumber (sheetWith sizes codes (floatsIn 448 b) limits) ≡ 2
 ragged-floats sizes codes b limits e m = rw (no-floats 448 b m) (two-first sizes codes [] limits e (no-link-floats (linksOf sizes) codes (total-some sizes e)))
 
-joints-below : (ns codes : List ℕ) → 2 ≤ chainJoints ns codes 0 → 2 ≤ jointOf codes (chainStart ns 1)
-unfolding chainJoints
+joints-below : (ns codes : List ℕ) → 2 ≤ chainLength ns codes 0 → 2 ≤ jointOf codes (chainStart ns 1)
+unfolding chainLength
 joints-below ns codes h = omega arith
 
 -- a sheet that passes 1 to 4 has joints
 joints-some : (sizes codes : List ℕ) (n : ℕ) → Shape sizes codes n → 2 ≤ joints codes
 joints-some sizes codes n s =
     let ns = linksOf sizes in
-    let two : 2 ≤ chainJoints ns codes 0 = s .two 0 (s .sized .some) in
+    let two : 2 ≤ chainLength ns codes 0 = s .two 0 (s .sized .some) in
     let some : 1 ≤ length ns = omega (arith, s .sized .long, s .sized .some) in
     let ends : chainStart ns 1 ≤ length codes = omega (arith, chain-start-mono ns 1 (length ns) some, chain-start-total ns, s .whole) in
     omega (arith, joints-below ns codes two, joint-mono codes (chainStart ns 1) (length codes) ends, joint-last codes)

@@ -12,7 +12,8 @@ ghost use Prim.Native.Nat.{_*_, _≤_};
 ghost use lib.ListN.{length};
 ghost use Rattle.lists.specs.Splice.{splice};
 ghost use Rattle.lent_bytes.specs.Lent.{bytesOf};
-ghost use Rattle.lent_bytes.specs.SheetLists.{lent, sheetOf, roomOf};
+ghost use Rattle.lists.specs.Lent.{lent};
+ghost use Rattle.lent_bytes.specs.SheetLists.{sheetOf, roomOf};
 ghost use Rattle.arm_bytes.specs.ArmCalls.{setGoalsNumber, framesNumber, poseNumber, updateNumber, resetNumber, manipulabilityNumber};
 ghost use Rattle.arm_bytes.specs.ArmCalls.{framePositions, frameRotations, endPoses, updatedBlocks, resetBlocks, manipulabilityValue, outputOf};
 

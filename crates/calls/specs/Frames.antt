@@ -1,4 +1,4 @@
--- frames and pose: their refusals and what they write.
+-- frames and pose: their refusals.
 use mathlib.Core.Path.{_≡_, _∙_}
 use mathlib.Core.List.{List}
 use Prim.Native.Nat.{ℕ, _≤_}

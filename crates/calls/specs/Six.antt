@@ -10,14 +10,14 @@ use lib.ListN.{length}
 use borrow.Author.Tests.{not-false}
 use Rattle.standins.specs.Num.{_⊕_, nought}
 use Rattle.geometry.specs.declared.pose.Pose.{Pose}
-use Rattle.sheet.specs.Chain.{chainStart}
+use Rattle.sheet.specs.Chain.{chainStart, chainLength}
 use Rattle.manipulability.specs.Jacobian.{manipulabilityIn, manipulabilityTo, manipulabilityOf}
-use Rattle.refusals.specs.Range.{every, and-true}
-use Rattle.refusals.specs.Refusal.{chainJoints}
+use Rattle.lists.specs.Tests.{and-true}
+use Rattle.refusals.specs.Range.{every}
 
 -- chain c has fewer than six joints
 unfoldable pub underSix : List ℕ → List ℕ → ℕ → Bool
-underSix ns cs c = ltb (chainJoints ns cs c) 6
+underSix ns cs c = ltb (chainLength ns cs c) 6
 
 -- some chain has six joints or more
 unfoldable pub anySix : List ℕ → List ℕ → Bool
@@ -30,7 +30,7 @@ zeros = refl
 
 module _ (P : ℕ → Pose) (ns cs : List ℕ) where
   under-six : (c : ℕ) → underSix ns cs c ≡ true → manipulabilityIn P cs (chainStart ns c) (chainStart ns (suc c)) ≡ nought
-  unfolding underSix chainJoints manipulabilityIn
+  unfolding underSix chainLength manipulabilityIn
   under-six c e = rw (rw add-one at e)
 
   none-to : (c : ℕ) → every (underSix ns cs) c ≡ true → manipulabilityTo P ns cs c ≡ nought

@@ -2,3 +2,6 @@
 pub mod answer;
 pub mod frames;
 pub mod measure;
+pub mod one_block_slopes;
+pub mod slopes;
+pub mod value;

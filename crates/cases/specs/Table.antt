@@ -1,4 +1,4 @@
--- The cases that document 01 marks P, each computed from the definitions.
+-- The cases that document 01 marks P, and four of its refusals, each computed from the definitions.
 use mathlib.Core.Path.{_≡_, refl}
 use mathlib.Core.Bool.{false}
 use mathlib.Core.List.{List, [], _∷_, _++_}
@@ -14,31 +14,25 @@ use Rattle.standins.specs.Series.{downFrom, sineDivisor, cosineDivisor, termOf,
 use Rattle.standins.specs.Power.{power20Of}
 use Rattle.geometry.specs.declared.vector.Vec3.{Vec3}
 use Rattle.geometry.specs.declared.quaternion.Quat.{Quat}
-use Rattle.geometry.specs.Vector.{zeroOf, addOf, subOf, scaleOf, dotOf, crossOf, normOf}
-use Rattle.geometry.specs.Quaternion.{productOf, axisOf, twiceOf, rotateOf, identityOf, quatZOf}
+use Rattle.geometry.specs.Vector.{vec, zeroOf, addOf, subOf, scaleOf, dotOf, crossOf, normOf}
+use Rattle.geometry.specs.Quaternion.{quat, productOf, axisOf, twiceOf, rotateOf, identityOf, quatZOf}
 use Rattle.geometry.specs.Pose.{originOf}
 use Rattle.geometry.specs.Segment.{innerOf, endedOf, closestOf, pointOf, distanceOf}
 use Rattle.sheet.specs.Code.{hasJoint, kindOf}
 use Rattle.sheet.specs.Read.{kindAt}
-use Rattle.sheet.specs.Chain.{firstIn, endIn, total, chainStart, jointsOf, jointOf, joints}
+use Rattle.sheet.specs.Chain.{firstIn, endIn, total, chainStart, jointsOf, jointOf, joints, chainLength}
 use Rattle.spacetime.specs.Link.{isNone, offsetOf, signedBy, alongOf, turnOf, jointTurn, aboutOf, turnedBy, carriedOf, slideOf, slidOf, movedOf, linkOf}
 use Rattle.spacetime.specs.Floats.{vecAt, quatAt, flatVec, flatQuat, flat}
 use Rattle.spacetime.specs.Walk.{valueOf, afterLink, startOf, beforeOf, poseOf}
 use Rattle.spacetime.specs.Frames.{positionAt, rotationAt, positionsFrom, rotationsFrom, chainPositions, chainRotations, positionsOf, rotationsOf}
 use Rattle.groove.specs.Vars.{resetOf, updateOf}
-use Rattle.groove.specs.Loss.{tenth, grooveLoss, scaledOf, powerOf, bOf, wallOf, swampLoss, freeOf}
+use Rattle.groove.specs.Loss.{tenth, grooveLoss, scaledOf, powerOf, bOf, boundsPenalty, swampLoss, freeOf}
 use Rattle.self_collision.specs.Pairs.{pairsFrom, pairsOf, chainPairs, allPairs}
-use Rattle.objective_master.specs.Objective.{goalObjectives, limitObjective, motionObjectives, pairObjective, objectives}
+use Rattle.objective_master.specs.Objective.{goalObjectives, limitObjective, motionObjectives, pairObjective, sourceList, objectives}
 use Rattle.one_block.specs.Record.{copyOf, recordOf, againOf, jointEntry, linkEntry, poseEntry, recordJoints, recordLinks, recordPoses, againAt, againBelow, entriesOf}
 use Rattle.refusals.specs.Range.{every, between, within, withinAt, squaresOf, nearOne, unitAt}
 use Rattle.refusals.specs.Lowest.{lowestFrom, lowest}
-use Rattle.refusals.specs.Refusal.{linksFit, badSizes, badLengths, listedKind, listedCode, listedAt, badCodes, chainJoints, twoJoints, laterFits, badJoints, rangedPair, pairFits, limitsFit, badLimits, linkFits, badFloats, loadRefusal, jointFits, valueFits, linkValueFits, blockFits, badBlock, blockRefusal}
-
-abbrev vec : Float → Float → Float → Vec3
-vec x y z = record { x = x; y = y; z = z }
-
-abbrev quat : Float → Float → Float → Float → Quat
-quat w i j k = record { w = w; i = i; j = j; k = k }
+use Rattle.refusals.specs.Refusal.{linksFit, badSizes, badLengths, listedKind, listedCode, listedAt, badCodes, twoJoints, laterFits, badJoints, rangedPair, pairFits, limitsFit, badLimits, linkFits, badFloats, loadRefusal, jointFits, valueFits, linkValueFits, eight, blockFits, badBlock, blockRefusal}
 
 -- the point z above the origin, and the rotation that does not turn, as floats
 abbrev high : Float → List Float
@@ -65,9 +59,6 @@ pair = 2 ∷ []
 
 abbrev quarter : Float
 quarter = ofBits binary64 0x3fd0_0000_0000_0000
-
-abbrev eight : Float
-eight = ofBits binary64 0x4020_0000_0000_0000
 
 -- a robot of one chain of four links, the first and the last fixed
 abbrev four : List ℕ
@@ -99,8 +90,8 @@ pub record Cases : Type 0 where
   -- reset a, update b, update c: c, b, a, a
   pub history : (a b c : List Float) (n : ℕ) → updateOf (updateOf (resetOf a n) b) c ≡ record { joints = n; xopt = c; «prev_state» = b; «prev_state2» = a; «prev_state3» = a }
   -- 7 joints: 32 objectives; chains of 6 and 3: 36
-  pub seven-joints : length (objectives (7 ∷ [])) ≡ 32
-  pub six-and-three : length (objectives (6 ∷ 3 ∷ [])) ≡ 36
+  pub seven-joints : length (objectives sourceList (7 ∷ [])) ≡ 32
+  pub six-and-three : length (objectives sourceList (6 ∷ 3 ∷ [])) ≡ 36
   -- fixed, revolute, revolute, fixed: 9 walked, links 0 1 2 3 1 2 3 2 3, joints 65535 four times, 0 0 0 1 1
   pub record-count : entriesOf four between-fixed ≡ 9
   pub record-links : recordLinks four between-fixed ≡ 0 ∷ 1 ∷ 2 ∷ 3 ∷ 1 ∷ 2 ∷ 3 ∷ 2 ∷ 3 ∷ []
@@ -129,7 +120,7 @@ poses-walked gs x = refl
 
 -- All of them, by computing both sides.
 pub cases : Cases
-unfolding recordJoints recordLinks recordOf againOf jointEntry linkEntry againAt againBelow entriesOf endIn objectives goalObjectives limitObjective motionObjectives pairObjective allPairs chainPairs pairsOf pairsFrom grooveLoss swampLoss scaledOf wallOf powerOf bOf power20Of squarings expOf expSeriesOf expTermOf positionsOf rotationsOf chainPositions chainRotations positionsFrom rotationsFrom positionAt rotationAt runs poseOf beforeOf startOf afterLink valueOf linkOf isNone offsetOf signedBy alongOf turnOf jointTurn aboutOf turnedBy carriedOf slideOf slidOf movedOf vecAt quatAt flatVec flatQuat firstIn total chainStart hasJoint jointsOf jointOf joints kindAt kindOf originOf zeroOf identityOf productOf axisOf twiceOf rotateOf quatZOf sineOf cosineOf seriesOf termOf sineDivisor cosineDivisor downFrom rootOf distanceOf pointOf closestOf endedOf innerOf addOf subOf scaleOf dotOf crossOf normOf cutOf blockRefusal jointFits valueFits linkValueFits blockFits badBlock every between within withinAt squaresOf nearOne unitAt freeOf rangedPair pairFits limitsFit badLimits linkFits badFloats loadRefusal lowest lowestFrom badSizes linksFit badLengths badCodes listedAt listedCode listedKind badJoints twoJoints laterFits chainJoints add sub mul div neg eq ne lt le ofInt ofBits
+unfolding recordJoints recordLinks recordOf againOf jointEntry linkEntry againAt againBelow entriesOf endIn objectives goalObjectives limitObjective motionObjectives pairObjective allPairs chainPairs pairsOf pairsFrom grooveLoss swampLoss scaledOf boundsPenalty powerOf bOf power20Of squarings expOf expSeriesOf expTermOf positionsOf rotationsOf chainPositions chainRotations positionsFrom rotationsFrom positionAt rotationAt runs poseOf beforeOf startOf afterLink valueOf linkOf isNone offsetOf signedBy alongOf turnOf jointTurn aboutOf turnedBy carriedOf slideOf slidOf movedOf vecAt quatAt flatVec flatQuat firstIn total chainStart hasJoint jointsOf jointOf joints kindAt kindOf originOf zeroOf identityOf productOf axisOf twiceOf rotateOf quatZOf sineOf cosineOf seriesOf termOf sineDivisor cosineDivisor downFrom rootOf distanceOf pointOf closestOf endedOf innerOf addOf subOf scaleOf dotOf crossOf normOf cutOf blockRefusal jointFits valueFits linkValueFits blockFits badBlock every between within withinAt squaresOf nearOne unitAt freeOf rangedPair pairFits limitsFit badLimits linkFits badFloats loadRefusal lowest lowestFrom badSizes linksFit badLengths badCodes listedAt listedCode listedKind badJoints twoJoints laterFits chainLength add sub mul div neg eq ne lt le ofInt ofBits
 cases = record {
   groove-centre = refl;
   swamp-centre = refl;

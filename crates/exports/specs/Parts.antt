@@ -1,4 +1,4 @@
--- Vectors and quaternions in numbers, and their components by number.
+-- The components of vectors and quaternions by number.
 use mathlib.Core.Bool.{cond}
 use Prim.Native.Nat.{ℕ}
 use lib.Dec.{eqb}
@@ -6,12 +6,6 @@ use lib.Ieee.{Float, nan}
 use Rattle.geometry.specs.declared.vector.Vec3.{Vec3}
 use Rattle.geometry.specs.declared.quaternion.Quat.{Quat}
 use Rattle.geometry.specs.Quaternion.{quatXOf, quatYOf, quatZOf}
-
-abbrev pub vec : Float → Float → Float → Vec3
-vec x y z = record { x = x; y = y; z = z }
-
-abbrev pub quat : Float → Float → Float → Float → Quat
-quat w i j k = record { w = w; i = i; j = j; k = k }
 
 -- 0 to 2 for x, y, z; any other is a NaN
 unfoldable pub vecPart : Vec3 → ℕ → Float

@@ -5,10 +5,10 @@ use geometry::segment;
 use geometry::vector;
 use geometry::vector::Vec3;
 ghost use mathlib.Core.Path.{_≡_};
-ghost use Rattle.geometry.specs.Vector.{crossOf, normOf};
-ghost use Rattle.geometry.specs.Quaternion.{productOf, inverseOf, rotateOf, scaledAxisOf};
+ghost use Rattle.geometry.specs.Vector.{crossOf, normOf, vec};
+ghost use Rattle.geometry.specs.Quaternion.{productOf, inverseOf, rotateOf, scaledAxisOf, quat};
 ghost use Rattle.geometry.specs.Segment.{distanceOf};
-ghost use Rattle.exports.specs.Parts.{vec, quat, vecPart, quatPart, getQuatPart};
+ghost use Rattle.exports.specs.Parts.{vecPart, quatPart, getQuatPart};
 
 // Component `part` of a vector: 0 to 2 for x, y, z; any other is a NaN.
 fn vec_part(v: Vec3, part: u32) -> f64

@@ -3,15 +3,15 @@ use mathlib.Core.Path.{_≡_, refl, sym, ap, _∙_}
 use mathlib.Core.Bool.{Bool, true, false, cond}
 use mathlib.Core.Logic.{⊎-elim}
 use mathlib.Core.List.{List}
-use Prim.Native.Nat.{ℕ, zero, suc, _+_, _-_, _*_, _≤_, _<_}
+use Prim.Native.Nat.{ℕ, zero, suc, _+_, _-_, _≤_, _<_}
 use native.Mathlib.Omega.{arith}
 use lib.Dec.{eqb, ltb}
 use lib.Ieee.{Float, lt, eq}
-use lib.ListN.{length, set, length-set}
+use lib.ListN.{length}
 use borrow.Author.Tests.{lt-ltb, le-ltb, eq-eqb, ne-eqb}
-use Rattle.standins.specs.Num.{_⊖_, _⊗_, _⊘_, nought, absOf}
-use Rattle.geometry.specs.Matrix.{entry, largerOf, largestOf, pivotRowOf, otherRow, swapOf, swapCount, eliminatedOf, eliminateRowOf, eliminateOf, diagonalOf, signedOf, stepsOf}
-use Rattle.geometry.proofs.Tables.{same-or, length-matrix, matrix-is, entry-set-same, entry-set-other, columnsOf, columns-ahead, columns-turn, length-columns, inRow, row-ahead, row-turn, rowsOf, rows-none, rows-ahead, rows-stay, rows-all, rows-turn}
+use Rattle.standins.specs.Num.{nought, absOf}
+use Rattle.geometry.specs.Matrix.{entry, matrixOf, put, inRow, largerOf, largestOf, pivotRowOf, otherRow, swapOf, swapCount, eliminatedOf, eliminateOf, diagonalOf, signedOf, stepsOf}
+use Rattle.geometry.proofs.Tables.{same-or, length-matrix, matrix-is, Rewritten, byColumn, byRow, rewritten-none, columns-turn, rows-turn}
 
 -- ---- the pivot's row
 pub largest-none : (m : List Float) (k : ℕ) → k ≡ largestOf m k (k + 1 - k - 1)
@@ -73,51 +73,15 @@ other-rest : (k p i : ℕ) → (i ≡ k → ⊥) → (i ≡ p → ⊥) → other
 unfolding otherRow
 other-rest k p i a b = rw (ne-eqb i k a, ne-eqb i p b)
 
-pub swap-turn : (m cur : List Float) (k p c : ℕ) → k < 6 → p < 6 → c < 6 → cur ≡ columnsOf c (swapped m k p) (entry m)
-    → set (set cur (6 * k + c) (entry cur p c)) (6 * p + c) (entry cur k c) ≡ columnsOf (c + 1) (swapped m k p) (entry m)
-swap-turn m cur k p c hk hp hc e =
-    columns-turn (swapped m k p) (entry m) c cur new e (length-set first (6 * p + c) (entry cur k c) ∙ lf)
-    (λ i hi.
-    ⊎-elim
-    (λ (q : i ≡ p). ap (λ (z : ℕ). entry new z c) q ∙ entry-set-same first p c (entry cur k c) lf hp hc ∙ ahead k hk ∙ at (sym (ap (otherRow k p) q ∙ other-second k p)))
-    (λ (n : i ≡ p → ⊥).
-    entry-set-other first p c i c (entry cur k c) (λ z. n (omega arith))
-    ∙ ⊎-elim
-    (λ (q : i ≡ k). ap (λ (z : ℕ). entry first z c) q ∙ entry-set-same cur k c (entry cur p c) lc hk hc ∙ ahead p hp ∙ at (sym (ap (otherRow k p) q ∙ other-first k p)))
-    (λ (n′ : i ≡ k → ⊥). entry-set-other cur k c i c (entry cur p c) (λ z. n′ (omega arith)) ∙ ahead i hi ∙ at (sym (other-rest k p i n′ n)))
-    (same-or i k))
-    (same-or i p))
-    (λ i j hi hj n. entry-set-other first p c i j (entry cur k c) (λ z. n (omega arith)) ∙ entry-set-other cur k c i j (entry cur p c) (λ z. n (omega arith)))
+-- one turn of the loop that swaps them
+pub swap-turn : (m : List Float) {cur : List Float} (k p : ℕ) {c : ℕ} → k < 6 → p < 6 → c < 6 → Rewritten byColumn (swapped m k p) m c cur
+    → Rewritten byColumn (swapped m k p) m (c + 1) (put (put cur k c (entry cur p c)) p c (entry cur k c))
+swap-turn m {cur} k p {c} hk hp hc w =
+    columns-turn w k p (entry cur p c) (entry cur k c) hk hp hc
+    (w .ahead p c hp hc (omega arith) ∙ at (other-first k p)) (w .ahead k c hk hc (omega arith) ∙ at (other-second k p)) (λ i a b. at (other-rest k p i a b))
   where
-    first : List Float
-    first = set cur (6 * k + c) (entry cur p c)
-
-    new : List Float
-    new = set first (6 * p + c) (entry cur k c)
-
-    lc : length cur ≡ 36
-    lc = ap length e ∙ length-columns (swapped m k p) (entry m) c
-
-    lf : length first ≡ 36
-    lf = length-set cur (6 * k + c) (entry cur p c) ∙ lc
-
-    ahead : (i : ℕ) → i < 6 → entry cur i c ≡ entry m i c
-    ahead i hi = ap (λ (z : List Float). entry z i c) e ∙ columns-ahead (swapped m k p) (entry m) c i c hi hc (omega arith)
-
-    at : {a b : ℕ} → a ≡ b → entry m a c ≡ entry m b c
-    at q = ap (λ (z : ℕ). entry m z c) q
-
--- ---- row i loses, column by column
-pub lose-turn : (m cur : List Float) (k i c : ℕ) → k < 6 → i < 6 → c < 6 → cur ≡ columnsOf c (inRow m (eliminatedOf m k) i) (entry m)
-    → set cur (6 * i + c) (entry cur i c ⊖ entry m i k ⊘ entry m k k ⊗ entry cur k c) ≡ columnsOf (c + 1) (inRow m (eliminatedOf m k) i) (entry m)
-unfolding eliminatedOf
-lose-turn m cur k i c hk hi hc e = row-turn m (eliminatedOf m k) i c cur hc e v hi (rw (ahead i hi, ahead k hk))
-  where
-    v : Float
-    v = entry cur i c ⊖ entry m i k ⊘ entry m k k ⊗ entry cur k c
-
-    ahead : (r : ℕ) → r < 6 → entry cur r c ≡ entry m r c
-    ahead = row-ahead m (eliminatedOf m k) i c cur hc e
+    at : {a b : ℕ} → a ≡ b → entry m b c ≡ entry m a c
+    at q = ap (λ (z : ℕ). entry m z c) (sym q)
 
 -- ---- the rows below k lose, row by row
 abbrev pub lost : List Float → ℕ → ℕ → ℕ → Float
@@ -132,26 +96,21 @@ module _ (m : List Float) (k : ℕ) where
   kept : (r j : ℕ) → r ≤ k → lost m k r j ≡ entry m r j
   kept r j b = rw (le-ltb k r b)
 
-  pub lose-none : length m ≡ 36 → m ≡ rowsOf m (lost m k) (k + 1)
-  lose-none l = rows-none m (lost m k) (k + 1) l (λ r j b. kept r j (omega arith))
+  -- the loop begins in the row below k
+  pub lose-none : length m ≡ 36 → Rewritten byRow (lost m k) m (k + 1) m
+  lose-none l = rewritten-none (k + 1) l (λ r j b. sym (kept r j (omega arith)))
 
-  lost-same : (i j : ℕ) → k < i → i < 6 → j < 6 → eliminatedOf (rowsOf m (lost m k) i) k i j ≡ lost m k i j
+  -- one turn: row i loses
+  pub lose-row : {cur : List Float} (i : ℕ) → k < i → i < 6 → Rewritten byRow (lost m k) m i cur → Rewritten byRow (lost m k) m (i + 1) (matrixOf (inRow cur i (eliminatedOf cur k i)))
   unfolding eliminatedOf
-  lost-same i j hk hi hj = rw (lt-ltb k i hk, stay j hj, stay k (omega arith), pivot k (omega arith), pivot j hj)
+  lose-row {cur} i hk hi w =
+      rows-turn w (eliminatedOf cur k i) (λ j hj. rw (lt-ltb k i hk, stay j hj, stay k (omega arith), pivot k (omega arith), pivot j hj))
     where
-      stay : (j : ℕ) → j < 6 → entry (rowsOf m (lost m k) i) i j ≡ entry m i j
-      stay j hj = rows-ahead m (lost m k) i i j hi hj (omega arith)
+      stay : (j : ℕ) → j < 6 → entry cur i j ≡ entry m i j
+      stay j hj = w .ahead i j hi hj (omega arith)
 
-      pivot : (j : ℕ) → j < 6 → entry (rowsOf m (lost m k) i) k j ≡ entry m k j
-      pivot j hj = rows-stay m (lost m k) i k j (omega arith) hj (kept k j (omega arith))
-
-  pub lose-row : (i : ℕ) → k < i → i < 6 → eliminateRowOf (rowsOf m (lost m k) i) k i ≡ rowsOf m (lost m k) (i + 1)
-  unfolding eliminateRowOf
-  lose-row i hk hi = rows-turn m (lost m k) (eliminatedOf (rowsOf m (lost m k) i) k) i hi (λ j hj. lost-same i j hk hi hj)
-
-  pub lose-all : (i : ℕ) → 6 ≤ i → rowsOf m (lost m k) i ≡ eliminateOf m k
-  unfolding eliminateOf
-  lose-all i b = rows-all m (lost m k) i b
+      pivot : (j : ℕ) → j < 6 → entry cur k j ≡ entry m k j
+      pivot j hj = w .behind k j (omega arith) hj hk ∙ kept k j (omega arith)
 
 -- ---- what is left from column k on
 pub count-most : (k p : ℕ) → swapCount k p ≤ 1

@@ -1,17 +1,17 @@
 -- Laws of tables and matrices: what stands in them, when two are the same, and one turn of a loop that rewrites a matrix column by column or row by row.
 use mathlib.Core.Path.{_≡_, refl, sym, ap, _∙_}
-use mathlib.Core.Bool.{Bool, true, false, cond}
+use mathlib.Core.Bool.{Bool, true, false}
 use mathlib.Core.Logic.{_⊎_, inl, inr, ⊎-elim}
 use mathlib.Core.List.{List, [], _∷_, _++_}
 use Prim.Native.Nat.{ℕ, zero, suc, _+_, _*_, _/_, _%_, _≤_, _<_}
 use native.Mathlib.Nat.{eq-or-lt-of-le}
 use native.Mathlib.Omega.{arith}
-use lib.Dec.{eqb, ltb}
+use lib.Dec.{eqb}
 use lib.Ieee.{Float, nan}
-use lib.ListN.{length, getD, set, length-set, length-append, List·getD-append}
-use lib.Seq.{getD-at, getD-set-same, getD-set-other, ext-getD}
-use borrow.Author.Tests.{lt-ltb, le-ltb, eq-eqb, ne-eqb, ltb-true, ltb-false, eqb-true, eqb-false}
-use Rattle.geometry.specs.Matrix.{table, entry, matrixOf}
+use lib.ListN.{length, getD, length-set, length-append, List·getD-append}
+use lib.Seq.{getD-at, getD-set-same, getD-set-other, set-set, ext-getD}
+use borrow.Author.Tests.{eq-eqb, ne-eqb, eqb-true, eqb-false}
+use Rattle.geometry.specs.Matrix.{table, entry, matrixOf, put, inRow}
 
 -- ---- cases
 pub same-or : (a b : ℕ) → (a ≡ b) ⊎ (a ≡ b → ⊥)
@@ -20,13 +20,6 @@ same-or a b = pick (eqb a b) refl
     pick : (t : Bool) → eqb a b ≡ t → (a ≡ b) ⊎ (a ≡ b → ⊥)
     pick true e = inl (eqb-true a b e)
     pick false e = inr (eqb-false a b e)
-
-pub below-or : (a b : ℕ) → (a < b) ⊎ (b ≤ a)
-below-or a b = pick (ltb a b) refl
-  where
-    pick : (t : Bool) → ltb a b ≡ t → (a < b) ⊎ (b ≤ a)
-    pick true e = inl (ltb-true a b e)
-    pick false e = inr (ltb-false a b e)
 
 -- ---- tables
 pub length-table : (f : ℕ → Float) (n : ℕ) → length (table f n) ≡ n
@@ -70,132 +63,101 @@ matrix-is f m l e =
 pub matrix-same : (f g : ℕ → ℕ → Float) → ((i j : ℕ) → i < 6 → j < 6 → f i j ≡ g i j) → matrixOf f ≡ matrixOf g
 matrix-same f g e = matrix-is g (matrixOf f) (length-matrix f) (λ i j hi hj. entry-matrix f i j hi hj ∙ e i j hi hj)
 
-pub entry-set-same : (m : List Float) (i j : ℕ) (v : Float) → length m ≡ 36 → i < 6 → j < 6 → entry (set m (6 * i + j) v) i j ≡ v
-entry-set-same m i j v l hi hj = getD-set-same m (6 * i + j) v nan (omega arith)
+-- what stands in a matrix after an entry is put
+pub entry-put-same : (m : List Float) (i j : ℕ) (v : Float) → length m ≡ 36 → i < 6 → j < 6 → entry (put m i j v) i j ≡ v
+entry-put-same m i j v l hi hj = getD-set-same m (6 * i + j) v nan (omega arith)
 
-pub entry-set-other : (m : List Float) (i j r s : ℕ) (v : Float) → (6 * r + s ≡ 6 * i + j → ⊥) → entry (set m (6 * i + j) v) r s ≡ entry m r s
-entry-set-other m i j r s v ne = getD-set-other m (6 * i + j) (6 * r + s) v nan ne
+pub entry-put-other : (m : List Float) (i j r s : ℕ) (v : Float) → (6 * r + s ≡ 6 * i + j → ⊥) → entry (put m i j v) r s ≡ entry m r s
+entry-put-other m i j r s v ne = getD-set-other m (6 * i + j) (6 * r + s) v nan ne
 
--- ---- a matrix that a loop rewrites column by column: g in the first c columns, h in the others
-unfoldable pub columnsOf : ℕ → (ℕ → ℕ → Float) → (ℕ → ℕ → Float) → List Float
-columnsOf c g h = matrixOf (λ i j. cond (ltb j c) (g i j) (h i j))
+-- ---- a matrix that a loop rewrites: an entry's place is the turn that comes to it
 
-module _ (g h : ℕ → ℕ → Float) where
-  pub columns-none : (m : List Float) → length m ≡ 36 → ((i j : ℕ) → i < 6 → j < 6 → entry m i j ≡ h i j) → m ≡ columnsOf 0 g h
-  unfolding columnsOf
-  columns-none m l e = matrix-is (λ i j. cond (ltb j 0) (g i j) (h i j)) m l (λ i j hi hj. rw (le-ltb j 0 (omega arith)) (e i j hi hj))
+-- column by column
+abbrev pub byColumn : ℕ → ℕ → ℕ
+byColumn i j = j
 
-  pub columns-all : (m : List Float) (c : ℕ) → 6 ≤ c → m ≡ columnsOf c g h → m ≡ matrixOf g
-  unfolding columnsOf
-  columns-all m c b e =
-      let f : ℕ → ℕ → Float = λ i j. cond (ltb j c) (g i j) (h i j) in
-      matrix-is g m (ap length e ∙ length-matrix f)
-      (λ i j hi hj. ap (λ (z : List Float). entry z i j) e ∙ entry-matrix f i j hi hj ∙ rw (lt-ltb j c (omega arith)))
+-- row by row
+abbrev pub byRow : ℕ → ℕ → ℕ
+byRow i j = i
 
-  -- what the loop has not come to yet, and what it has passed
-  pub columns-ahead : (c i j : ℕ) → i < 6 → j < 6 → c ≤ j → entry (columnsOf c g h) i j ≡ h i j
-  unfolding columnsOf
-  columns-ahead c i j hi hj b = entry-matrix (λ i j. cond (ltb j c) (g i j) (h i j)) i j hi hj ∙ rw (le-ltb j c b)
+-- cur is the matrix before turn n: g's entries where the loop has been, m's where it has not
+pub record Rewritten (place : ℕ → ℕ → ℕ) (g : ℕ → ℕ → Float) (m : List Float) (n : ℕ) (cur : List Float) : Type 0 where
+  pub sized : length cur ≡ 36
+  pub behind : (i j : ℕ) → i < 6 → j < 6 → place i j < n → entry cur i j ≡ g i j
+  pub ahead : (i j : ℕ) → i < 6 → j < 6 → n ≤ place i j → entry cur i j ≡ entry m i j
 
-  pub columns-behind : (c i j : ℕ) → i < 6 → j < 6 → j < c → entry (columnsOf c g h) i j ≡ g i j
-  unfolding columnsOf
-  columns-behind c i j hi hj b = entry-matrix (λ i j. cond (ltb j c) (g i j) (h i j)) i j hi hj ∙ rw (lt-ltb j c b)
+module _ {place : ℕ → ℕ → ℕ} {g : ℕ → ℕ → Float} {m : List Float} where
+  -- the loop may begin at turn n if g's entries before it are m's
+  pub rewritten-none : (n : ℕ) → length m ≡ 36 → ((i j : ℕ) → place i j < n → entry m i j ≡ g i j) → Rewritten place g m n m
+  rewritten-none n l e = record { sized = l; behind = λ i j hi hj b. e i j b; ahead = λ i j hi hj b. refl }
 
-  pub length-columns : (c : ℕ) → length (columnsOf c g h) ≡ 36
-  unfolding columnsOf
-  length-columns c = length-matrix (λ i j. cond (ltb j c) (g i j) (h i j))
+  -- it may begin at turn 0
+  pub rewritten-start : length m ≡ 36 → Rewritten place g m 0 m
+  rewritten-start l = rewritten-none 0 l (λ i j b. absurd (omega arith))
 
-  -- one turn: column c is now g's, the others stay
-  pub columns-turn : (c : ℕ) (cur new : List Float) → cur ≡ columnsOf c g h → length new ≡ 36
-      → ((i : ℕ) → i < 6 → entry new i c ≡ g i c)
-      → ((i j : ℕ) → i < 6 → j < 6 → (j ≡ c → ⊥) → entry new i j ≡ entry cur i j)
-      → new ≡ columnsOf (c + 1) g h
-  unfolding columnsOf
-  columns-turn c cur new e l here there =
-      matrix-is (λ i j. cond (ltb j (c + 1)) (g i j) (h i j)) new l (λ i j hi hj. at i j hi hj)
-    where
-      old : (i j : ℕ) → i < 6 → j < 6 → (j ≡ c → ⊥) → entry new i j ≡ entry (columnsOf c g h) i j
-      old i j hi hj ne = there i j hi hj ne ∙ ap (λ (z : List Float). entry z i j) e
+  -- where no entry is ahead the matrix is g's
+  pub rewritten-all : {n : ℕ} {cur : List Float} → Rewritten place g m n cur → ((i j : ℕ) → i < 6 → j < 6 → place i j < n) → cur ≡ matrixOf g
+  rewritten-all {n} {cur} w b = matrix-is g cur (w .sized) (λ i j hi hj. w .behind i j hi hj (b i j hi hj))
 
-      at : (i j : ℕ) → i < 6 → j < 6 → entry new i j ≡ cond (ltb j (c + 1)) (g i j) (h i j)
-      at i j hi hj =
-          ⊎-elim
-          (λ (q : j ≡ c). ap (entry new i) q ∙ here i hi ∙ ap (g i) (sym q) ∙ rw (lt-ltb j (c + 1) (omega arith)))
-          (λ (ne : j ≡ c → ⊥).
-          ⊎-elim
-          (λ (b : j < c). old i j hi hj ne ∙ columns-behind c i j hi hj b ∙ rw (lt-ltb j (c + 1) (omega arith)))
-          (λ (b : c ≤ j). old i j hi hj ne ∙ columns-ahead c i j hi hj b ∙ rw (le-ltb j (c + 1) (omega arith)))
-          (below-or j c))
-          (same-or j c)
+  -- one turn: the entries at place n are now g's, the others stay
+  pub rewritten-turn : {n : ℕ} {cur : List Float} → Rewritten place g m n cur → (new : List Float) → length new ≡ 36
+      → ((i j : ℕ) → i < 6 → j < 6 → place i j ≡ n → entry new i j ≡ g i j)
+      → ((i j : ℕ) → i < 6 → j < 6 → (place i j ≡ n → ⊥) → entry new i j ≡ entry cur i j)
+      → Rewritten place g m (n + 1) new
+  rewritten-turn {n} {cur} w new l here there =
+      record {
+        sized = l;
+        behind = λ i j hi hj b.
+            ⊎-elim (here i j hi hj) (λ (e : place i j ≡ n → ⊥). there i j hi hj e ∙ w .behind i j hi hj (omega arith)) (same-or (place i j) n);
+        ahead = λ i j hi hj b. there i j hi hj (λ e. omega arith) ∙ w .ahead i j hi hj (omega arith);
+      }
 
--- ---- one row that a loop rewrites column by column: row i is g's, the others are m's
-abbrev pub inRow : List Float → (ℕ → ℕ → Float) → ℕ → ℕ → ℕ → Float
-inRow m g i r j = cond (eqb r i) (g r j) (entry m r j)
+-- ---- a loop over the columns: turn c puts x in row a and y in row b, which are g's there; the other rows are g's already
+pub columns-turn : {g : ℕ → ℕ → Float} {m cur : List Float} {c : ℕ} → Rewritten byColumn g m c cur → (a b : ℕ) (x y : Float) → a < 6 → b < 6 → c < 6
+    → x ≡ g a c → y ≡ g b c → ((i : ℕ) → (i ≡ a → ⊥) → (i ≡ b → ⊥) → entry m i c ≡ g i c) → Rewritten byColumn g m (c + 1) (put (put cur a c x) b c y)
+columns-turn {g} {m} {cur} {c} w a b x y ha hb hc ex ey rest =
+    rewritten-turn w (put first b c y) (length-set first (6 * b + c) y ∙ sized) (λ i j hi hj q. rw q (here i hi))
+    (λ i j hi hj n. entry-put-other first b c i j y (λ z. n (omega arith)) ∙ entry-put-other cur a c i j x (λ z. n (omega arith)))
+  where
+    first : List Float
+    first = put cur a c x
 
-module _ (m : List Float) (g : ℕ → ℕ → Float) (i c : ℕ) (cur : List Float) (hc : c < 6) (e : cur ≡ columnsOf c (inRow m g i) (entry m)) where
-  -- column c is still m's
-  pub row-ahead : (r : ℕ) → r < 6 → entry cur r c ≡ entry m r c
-  row-ahead r hr = ap (λ (z : List Float). entry z r c) e ∙ columns-ahead (inRow m g i) (entry m) c r c hr hc (omega arith)
+    sized : length first ≡ 36
+    sized = length-set cur (6 * a + c) x ∙ w .sized
 
-  -- one turn: row i's entry in column c is now g's
-  pub row-turn : (v : Float) → i < 6 → v ≡ g i c → set cur (6 * i + c) v ≡ columnsOf (c + 1) (inRow m g i) (entry m)
-  row-turn v hi value =
-      columns-turn (inRow m g i) (entry m) c cur (set cur (6 * i + c) v) e (length-set cur (6 * i + c) v ∙ lc)
-      (λ r hr.
-      ⊎-elim
-      (λ (q : r ≡ i). ap (λ (z : ℕ). entry (set cur (6 * i + c) v) z c) q ∙ entry-set-same cur i c v lc hi hc ∙ value ∙ rw (eq-eqb r i q, q))
-      (λ (n : r ≡ i → ⊥). entry-set-other cur i c r c v (λ z. n (omega arith)) ∙ row-ahead r hr ∙ rw (ne-eqb r i n))
-      (same-or r i))
-      (λ r j hr hj n. entry-set-other cur i c r j v (λ z. n (omega arith)))
-    where
-      lc : length cur ≡ 36
-      lc = ap length e ∙ length-columns (inRow m g i) (entry m) c
+    here : (i : ℕ) → i < 6 → entry (put first b c y) i c ≡ g i c
+    here i hi =
+        ⊎-elim
+        (λ (q : i ≡ b). rw q (entry-put-same first b c y sized hb hc ∙ ey))
+        (λ (n : i ≡ b → ⊥).
+        entry-put-other first b c i c y (λ z. n (omega arith))
+        ∙ ⊎-elim
+        (λ (q : i ≡ a). rw q (entry-put-same cur a c x (w .sized) ha hc ∙ ex))
+        (λ (n′ : i ≡ a → ⊥). entry-put-other cur a c i c x (λ z. n′ (omega arith)) ∙ w .ahead i c hi hc (omega arith) ∙ rest i n′ n)
+        (same-or i a))
+        (same-or i b)
 
--- ---- a matrix that a loop rewrites row by row: g in the rows before i, m's in the others
-unfoldable pub rowsOf : List Float → (ℕ → ℕ → Float) → ℕ → List Float
-rowsOf m g i = matrixOf (λ r j. cond (ltb r i) (g r j) (entry m r j))
+-- ---- row i is f's, the others are m's
+module _ (m : List Float) (i : ℕ) (f : ℕ → Float) where
+  -- what stands in row i
+  row-here : (r j : ℕ) → r ≡ i → inRow m i f r j ≡ f j
+  row-here r j e = rw (eq-eqb r i e)
 
-module _ (m : List Float) (g : ℕ → ℕ → Float) where
-  abbrev before : ℕ → ℕ → ℕ → Float
-  before i r j = cond (ltb r i) (g r j) (entry m r j)
+  -- what stands in another
+  row-there : (r j : ℕ) → (r ≡ i → ⊥) → inRow m i f r j ≡ entry m r j
+  row-there r j n = rw (ne-eqb r i n)
 
-  pub length-rows : (i : ℕ) → length (rowsOf m g i) ≡ 36
-  unfolding rowsOf
-  length-rows i = length-matrix (before i)
+  -- a loop over the columns of row i: turn c puts what f says of column c
+  pub row-turn : {cur : List Float} {c : ℕ} → Rewritten byColumn (inRow m i f) m c cur → (v : Float) → i < 6 → c < 6 → v ≡ f c
+      → Rewritten byColumn (inRow m i f) m (c + 1) (put cur i c v)
+  row-turn {cur} {c} w v hi hc e =
+      let h : v ≡ inRow m i f i c = e ∙ sym (row-here i c refl) in
+      rw set-set at (columns-turn w i i v v hi hi hc h h (λ r n n′. sym (row-there r c n)))
 
-  -- a row that the loop has not come to stays, and so does one that is g's already
-  pub rows-ahead : (i r j : ℕ) → r < 6 → j < 6 → i ≤ r → entry (rowsOf m g i) r j ≡ entry m r j
-  unfolding rowsOf
-  rows-ahead i r j hr hj b = entry-matrix (before i) r j hr hj ∙ rw (le-ltb r i b)
-
-  pub rows-stay : (i r j : ℕ) → r < 6 → j < 6 → g r j ≡ entry m r j → entry (rowsOf m g i) r j ≡ entry m r j
-  unfolding rowsOf
-  rows-stay i r j hr hj e =
-      entry-matrix (before i) r j hr hj ∙ ⊎-elim (λ (b : r < i). rw (lt-ltb r i b) e) (λ (b : i ≤ r). rw (le-ltb r i b)) (below-or r i)
-
-  pub rows-none : (i : ℕ) → length m ≡ 36 → ((r j : ℕ) → r < i → g r j ≡ entry m r j) → m ≡ rowsOf m g i
-  unfolding rowsOf
-  rows-none i l e =
-      matrix-is (before i) m l
-      (λ r j hr hj. ⊎-elim (λ (b : r < i). rw (lt-ltb r i b) (sym (e r j b))) (λ (b : i ≤ r). rw (le-ltb r i b)) (below-or r i))
-
-  pub rows-all : (i : ℕ) → 6 ≤ i → rowsOf m g i ≡ matrixOf g
-  unfolding rowsOf
-  rows-all i b = matrix-same (before i) g (λ r j hr hj. rw (lt-ltb r i (omega arith)))
-
-  -- one turn: row i is now g's
-  pub rows-turn : (f : ℕ → ℕ → Float) (i : ℕ) → i < 6 → ((j : ℕ) → j < 6 → f i j ≡ g i j) → matrixOf (inRow (rowsOf m g i) f i) ≡ rowsOf m g (i + 1)
-  unfolding rowsOf
-  rows-turn f i hi e =
-      matrix-same (inRow (rowsOf m g i) f i) (before (i + 1))
-      (λ r j hr hj.
-      ⊎-elim
-      (λ (q : r ≡ i). rw (eq-eqb r i q, q, lt-ltb i (i + 1) (omega arith)) (e j hj))
-      (λ (n : r ≡ i → ⊥).
-      rw (ne-eqb r i n)
-      (entry-matrix (before i) r j hr hj
-      ∙ ⊎-elim
-      (λ (b : r < i). rw (lt-ltb r i b, lt-ltb r (i + 1) (omega arith)))
-      (λ (b : i ≤ r). rw (le-ltb r i b, le-ltb r (i + 1) (omega arith)))
-      (below-or r i)))
-      (same-or r i))
+-- ---- a loop over the rows: turn i makes row i f's, which is g's there
+pub rows-turn : {g : ℕ → ℕ → Float} {m cur : List Float} {i : ℕ} → Rewritten byRow g m i cur → (f : ℕ → Float) → ((j : ℕ) → j < 6 → f j ≡ g i j)
+    → Rewritten byRow g m (i + 1) (matrixOf (inRow cur i f))
+rows-turn {g} {m} {cur} {i} w f e =
+    rewritten-turn w (matrixOf (inRow cur i f)) (length-matrix (inRow cur i f))
+    (λ r j hr hj q. entry-matrix (inRow cur i f) r j hr hj ∙ row-here cur i f r j q ∙ rw q (e j hj))
+    (λ r j hr hj n. entry-matrix (inRow cur i f) r j hr hj ∙ row-there cur i f r j n)

@@ -4,7 +4,7 @@ use mathlib.Core.List.{List, [], _∷_, _++_}
 use Prim.Native.Nat.{ℕ, zero, suc, _+_, _-_, _*_, _/_, _%_}
 use lib.Dec.{eqb, ltb}
 use lib.Ieee.{Float, nan, neg, lt, eq}
-use lib.ListN.{length, getD}
+use lib.ListN.{length, getD, set}
 use Rattle.standins.specs.Num.{_⊕_, _⊖_, _⊗_, _⊘_, nought, one, absOf}
 
 -- f of 0, 1, .., n - 1
@@ -92,17 +92,17 @@ gramOf js = matrixOf (sumOf js)
 
 -- ---- what the code's loops leave on the way
 
--- of the determinant: row i loses
-unfoldable pub eliminateRowOf : List Float → ℕ → ℕ → List Float
-eliminateRowOf m k i = matrixOf (λ r j. cond (eqb r i) (eliminatedOf m k r j) (entry m r j))
+-- m with v in row i and column j
+abbrev pub put : List Float → ℕ → ℕ → Float → List Float
+put m i j v = set m (6 * i + j) v
+
+-- in row i what f says of each column, m's entries in the other rows
+abbrev pub inRow : List Float → ℕ → (ℕ → Float) → ℕ → ℕ → Float
+inRow m i f r j = cond (eqb r i) (f j) (entry m r j)
 
 -- of the product: row r's entry in column s of m, plus column c's (row r's entry)·(row s's entry)
 unfoldable pub addedOf : List Float → List Float → ℕ → ℕ → ℕ → Float
 addedOf m js c r s = entry m r s ⊕ getD js (6 * c + r) nan ⊗ getD js (6 * c + s) nan
-
--- row r gains
-unfoldable pub addRowOf : List Float → List Float → ℕ → ℕ → List Float
-addRowOf m js c r = matrixOf (λ i s. cond (eqb i r) (addedOf m js c i s) (entry m i s))
 
 -- each row gains
 unfoldable pub addColumnOf : List Float → List Float → ℕ → List Float

@@ -7,6 +7,9 @@ use Rattle.geometry.specs.declared.vector.Vec3.{Vec3}
 use Rattle.geometry.specs.declared.quaternion.Quat.{Quat}
 use Rattle.geometry.specs.Vector.{zeroOf, addOf, negateOf, scaleOf, overOf, crossOf, normOf}
 
+abbrev pub quat : Float → Float → Float → Float → Quat
+quat w i j k = record { w = w; i = i; j = j; k = k }
+
 -- the product a·b
 unfoldable pub productOf : Quat → Quat → Quat
 productOf a b = record {

@@ -4,6 +4,9 @@ use Rattle.root.specs.Root.{rootOf}
 use Rattle.standins.specs.Num.{_⊕_, _⊖_, _⊗_, _⊘_, nought}
 use Rattle.geometry.specs.declared.vector.Vec3.{Vec3}
 
+abbrev pub vec : Float → Float → Float → Vec3
+vec x y z = record { x = x; y = y; z = z }
+
 -- +0 three times
 unfoldable pub zeroOf : Vec3
 zeroOf = record { x = nought; y = nought; z = nought }

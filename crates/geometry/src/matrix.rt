@@ -1,9 +1,9 @@
 // Matrices of six rows of six: the determinant, and the product of a matrix with its own transpose.
 ghost use mathlib.Core.Path.{_≡_};
-ghost use Prim.Native.Nat.{_/_, _<_};
+ghost use Prim.Native.Nat.{_+_, _*_, _/_, _<_};
 ghost use lib.ListN.{length};
 ghost use Rattle.geometry.specs.Size.{sizeOf};
-ghost use Rattle.geometry.specs.Matrix.{largerOf, pivotRowOf, swapOf, swapCount, eliminateRowOf, eliminateOf, diagonalOf, determinantOf, addRowOf, addColumnOf, gramOf};
+ghost use Rattle.geometry.specs.Matrix.{entry, matrixOf, put, inRow, largerOf, pivotRowOf, swapOf, swapCount, eliminatedOf, eliminateOf, diagonalOf, determinantOf, addedOf, addColumnOf, gramOf};
 
 // The larger of x and -x: the absolute value but for the sign of a zero, which no comparison sees.
 // One instruction, where a test of the sign is a branch that is often guessed wrong.
@@ -17,12 +17,28 @@ fn size(x: f64) -> f64
     x
 }
 
+// The entry in row i and column j, six to a row; of columns of six the one in column i and row j.
+fn entry(m: &[f64], i: usize, j: usize) -> f64
+    requires { ⌜ 6 * i + j < length (now m) ⌝ }
+    ensures { λ r. ⌜ r ≡ entry (now (m .entry)) i j ⌝ }
+{
+    m[6 * i + j]
+}
+
+// Puts v in row i and column j.
+fn put_entry(m: &mut [f64; 36], i: usize, j: usize, v: f64)
+    requires { ⌜ (i < 6) × (j < 6) ⌝ }
+    ensures { λ _. ⌜ now (m .exit) ≡ put (now (m .entry)) i j v ⌝ }
+{
+    m[6 * i + j] = v;
+}
+
 // Of rows p and i the one with the larger absolute value in column k, p on a tie.
 fn larger(m: &[f64; 36], k: usize, p: usize, i: usize) -> usize
     requires { ⌜ (k < 6) × (p < 6) × (i < 6) ⌝ }
     ensures { λ r. ⌜ r ≡ largerOf (now (m .entry)) k p i ⌝ }
 {
-    if size(m[6 * p + k]) < size(m[6 * i + k]) {
+    if size(entry(m, p, k)) < size(entry(m, i, k)) {
         return i;
     }
     p
@@ -47,9 +63,10 @@ fn swap_rows(m: &mut [f64; 36], k: usize, p: usize)
 {
     let mut c = 0;
     while c < 6 {
-        let x = m[6 * k + c];
-        m[6 * k + c] = m[6 * p + c];
-        m[6 * p + c] = x;
+        let x = entry(m, k, c);
+        let y = entry(m, p, c);
+        put_entry(m, k, c, y);
+        put_entry(m, p, c, x);
         c += 1;
     }
 }
@@ -68,12 +85,13 @@ fn exchange(m: &mut [f64; 36], k: usize, p: usize) -> usize
 
 fn eliminate_row(m: &mut [f64; 36], k: usize, i: usize)
     requires { ⌜ (k < i) × (i < 6) × (length (now m) ≡ 36) ⌝ }
-    ensures { λ _. ⌜ now (m .exit) ≡ eliminateRowOf (now (m .entry)) k i ⌝ }
+    ensures { λ _. ⌜ now (m .exit) ≡ matrixOf (inRow (now (m .entry)) i (eliminatedOf (now (m .entry)) k i)) ⌝ }
 {
-    let f = m[6 * i + k] / m[6 * k + k];
+    let f = entry(m, i, k) / entry(m, k, k);
     let mut c = 0;
     while c < 6 {
-        m[6 * i + c] = m[6 * i + c] - f * m[6 * k + c];
+        let v = entry(m, i, c) - f * entry(m, k, c);
+        put_entry(m, i, c, v);
         c += 1;
     }
 }
@@ -103,7 +121,7 @@ pub fn determinant(m: [f64; 36]) -> f64
     let mut k = 0;
     while k < 6 {
         let p = pivot_row(&a, k);
-        if a[6 * p + k] == 0.0 {
+        if entry(&a, p, k) == 0.0 {
             return 0.0;
         }
         swaps += exchange(&mut a, k, p);
@@ -120,12 +138,13 @@ pub fn determinant(m: [f64; 36]) -> f64
 // Adds to row r the column c times its own entry in that row.
 fn add_row(m: &mut [f64; 36], j: &[f64], c: usize, r: usize)
     requires { ⌜ (c < length (now j) / 6) × (r < 6) × (length (now m) ≡ 36) ⌝ }
-    ensures { λ _. ⌜ now (m .exit) ≡ addRowOf (now (m .entry)) (now (j .entry)) c r ⌝ }
+    ensures { λ _. ⌜ now (m .exit) ≡ matrixOf (inRow (now (m .entry)) r (addedOf (now (m .entry)) (now (j .entry)) c r)) ⌝ }
 {
-    let x = j[6 * c + r];
+    let x = entry(j, c, r);
     let mut s = 0;
     while s < 6 {
-        m[6 * r + s] = m[6 * r + s] + x * j[6 * c + s];
+        let v = entry(m, r, s) + x * entry(j, c, s);
+        put_entry(m, r, s, v);
         s += 1;
     }
 }

@@ -23,7 +23,7 @@ raisedBy h x j = set x j (getD x j nan ⊕ h)
 
 -- the poses of block x, walked afresh; gs are the floats of the links
 abbrev pub posesOf : Given → List Float → List Float → ℕ → Pose
-posesOf g gs x = poseOf (g .sizes) (g .codes) gs x
+posesOf g gs x = poseOf (g .counts) (g .codes) gs x
 
 -- the losses at block x
 unfoldable pub lossesAt : Given → List Float → List Float → List Float

@@ -13,7 +13,7 @@ use Rattle.task.specs.Task.{Given}
 use Rattle.objective_master.specs.Objective.{Objective, MinimizeVelocity}
 use Rattle.objective_master.specs.Losses.{lossOf, lossesOf, objectivesOf, losses-many}
 use Rattle.objective_master.specs.Weights.{kindNumber, weightedOf, weightedBy, weighted-kinds, weighted-front}
-use Rattle.objective_master.specs.Standing.{map-at}
+use Rattle.objective_master.specs.Cached.{map-at}
 use Rattle.objective_master.specs.Call.{objectiveOf}
 use Rattle.gradient.specs.declared.slopes.Rule.{Rule}
 use Rattle.gradient.specs.declared.slopes.Rule.the-variants.{EachLoss, WeightedSum}

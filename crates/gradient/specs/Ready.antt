@@ -11,15 +11,15 @@ use Rattle.lists.specs.Splice.{splice, part-splice}
 use Rattle.task.specs.Task.{taskLength, Given, givenOf}
 use Rattle.spacetime.specs.Walk.{Sheet, listPose, framesOf, frames-pose}
 use Rattle.spacetime.specs.Frames.{Chains}
-use Rattle.manipulability.specs.View.{viewOf}
+use Rattle.manipulability.specs.View.{walkedAgain, viewOf}
 use Rattle.self_collision.specs.Pairs.{Paired, chainLengths}
-use Rattle.objective_master.specs.Objective.{objectives}
+use Rattle.objective_master.specs.Objective.{sourceList, objectives}
 use Rattle.objective_master.specs.Losses.{Lent, lossesOf}
 use Rattle.objective_master.specs.Kinds.{kindsOf, kinds-length}
-use Rattle.objective_master.specs.Standing.{Standing}
+use Rattle.objective_master.specs.Cached.{Cached}
 use Rattle.objective_master.specs.Count.{objectives-few}
 use Rattle.objective_master.specs.Call.{TwoJoints}
-use Rattle.objective_master.specs.Untouched.{standing-at, losses-ext}
+use Rattle.objective_master.specs.Untouched.{cached-at, losses-ext}
 use Rattle.gradient.specs.Gradient.{posesOf, lossesAt, valueAt}
 
 -- an accepted sheet with its floats gs, the list with its weights, limits, goals and history, and joints x
@@ -39,7 +39,7 @@ pub record Known (ns cs : List ℕ) (task gs x : List Float) (ks : List ℕ) (f 
   pub poses : 7 * length cs ≤ length ps
   pub again : length ks ≤ length hs
 
--- the objectives' kinds, n of them, in front of a list that is long enough for any sheet's
+-- the objectives' kinds, n of them and at most 131, in front of a list
 pub record KindsListed (ns cs list : List ℕ) (n : ℕ) : Type 0 where
   pub front : take n list ≡ kindsOf ns cs
   pub many : n ≡ length (take n list)
@@ -66,7 +66,7 @@ module _ (ns cs : List ℕ) (task gs x : List Float) (r : Ready ns cs task gs x)
   kinds-most = omega (arith, kinds-length ns cs, objectives-few ns cs (r .paired .counted) (r .two))
 
   -- ---- as `relaxed_ik` leaves the list
-  pub kinds-listed : (rest list : List ℕ) (n : ℕ) → length list ≡ 131 → n ≡ length (objectives (chainLengths ns cs)) → list ≡ splice rest 0 (kindsOf ns cs) → KindsListed ns cs list n
+  pub kinds-listed : (rest list : List ℕ) (n : ℕ) → length list ≡ 131 → n ≡ length (objectives sourceList (chainLengths ns cs)) → list ≡ splice rest 0 (kindsOf ns cs) → KindsListed ns cs list n
   kinds-listed rest list n long e h =
       let f : take n list ≡ kindsOf ns cs = ap (take n) h ∙ part-splice rest 0 n (kindsOf ns cs) (omega arith) (kinds-length ns cs ∙ sym e) in
       let m : length (take n list) ≡ n = ap length f ∙ kinds-length ns cs ∙ sym e in
@@ -83,13 +83,13 @@ module _ (ns cs : List ℕ) (task gs x : List Float) (r : Ready ns cs task gs x)
         whole = r .whole;
       }
 
-  pub standing-whole : (P : ℕ → Pose) (out : List Float) → length (kindsOf ns cs) ≤ length out → Standing G P x 0 (length cs) 65535 out
+  pub cached-whole : (P : ℕ → Pose) (out : List Float) → length (kindsOf ns cs) ≤ length out → Cached G P x 0 (length cs) 65535 out
   unfolding givenOf
-  standing-whole P out h = standing-at G (r .chains) P x out (sym (r .sheet .whole)) (omega (arith, kinds-length ns cs))
+  cached-whole P out h = cached-at G (r .chains) P x out (sym (r .sheet .whole)) (omega (arith, kinds-length ns cs))
 
   view-pose : (rest poses : List Float) (l : ℕ) → 7 * length cs ≤ length rest → poses ≡ splice rest 0 (framesOf ns cs gs x) → l < length cs
       → viewOf poses poses 0 (length cs) l ≡ posesOf G gs x l
-  unfolding viewOf listPose givenOf
+  unfolding viewOf walkedAgain listPose givenOf
   view-pose rest poses l room e h =
       let z : l - 0 ≡ l = omega arith in
       rw (le-leb 0 l (omega arith), lt-ltb l (length cs) h, z)

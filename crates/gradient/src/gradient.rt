@@ -23,7 +23,7 @@ struct Asked {
 // The slope along a joint, the losses of the block as it stands being f_0s. The block gets its old value back.
 fn slope(
     asked: Asked,
-    sizes: &[u16],
+    counts: &[u16],
     codes: &[u16],
     floats: &[f64],
     task: &[f64],
@@ -33,16 +33,16 @@ fn slope(
     poses: &mut [f64],
     f_hs: &mut [f64],
 ) -> f64
-    requires { ⌜ Ready (now sizes) (now codes) (now task) (now floats) (now scratch) × (asked .joint < length (now scratch)) ⌝ }
-    requires { ⌜ Known (now sizes) (now codes) (now task) (now floats) (now scratch) (now kinds) (asked .«f_0») (now «f_0s») (now poses) (now «f_hs») ⌝ }
-    ensures { λ r. ⌜ r ≡ slopeAt (asked .rule) (givenIn sizes codes task) (now (floats .entry)) (now (scratch .entry)) (asked .joint) ⌝ }
+    requires { ⌜ Ready (now counts) (now codes) (now task) (now floats) (now scratch) × (asked .joint < length (now scratch)) ⌝ }
+    requires { ⌜ Known (now counts) (now codes) (now task) (now floats) (now scratch) (now kinds) (asked .«f_0») (now «f_0s») (now poses) (now «f_hs») ⌝ }
+    ensures { λ r. ⌜ r ≡ slopeAt (asked .rule) (givenIn counts codes task) (now (floats .entry)) (now (scratch .entry)) (asked .joint) ⌝ }
     ensures { λ _. ⌜ now (scratch .exit) ≡ now (scratch .entry) ⌝ }
 {
     let joint = asked.joint;
     let rule = asked.rule;
     let old = scratch[joint];
     scratch[joint] = old + slopes::step(rule);
-    value::losses_of(sizes, codes, floats, task, scratch, poses, f_hs);
+    value::losses_of(counts, codes, floats, task, scratch, poses, f_hs);
     scratch[joint] = old;
     slopes::slope(rule, parts::weights(task), kinds, asked.f_0, f_0s, f_hs)
 }
@@ -50,7 +50,7 @@ fn slope(
 // The slopes along all joints.
 fn put_gradient(
     rule: Rule,
-    sizes: &[u16],
+    counts: &[u16],
     codes: &[u16],
     floats: &[f64],
     task: &[f64],
@@ -62,9 +62,9 @@ fn put_gradient(
     f_hs: &mut [f64],
     slopes: &mut [f64],
 )
-    requires { ⌜ Ready (now sizes) (now codes) (now task) (now floats) (now scratch) × (length (now scratch) ≤ length (now slopes)) ⌝ }
-    requires { ⌜ Known (now sizes) (now codes) (now task) (now floats) (now scratch) (now kinds) «f_0» (now «f_0s») (now poses) (now «f_hs») ⌝ }
-    ensures { λ _. ⌜ now (slopes .exit) ≡ splice (now (slopes .entry)) 0 (slopesOf rule (givenIn sizes codes task) (now (floats .entry)) (now (scratch .entry))) ⌝ }
+    requires { ⌜ Ready (now counts) (now codes) (now task) (now floats) (now scratch) × (length (now scratch) ≤ length (now slopes)) ⌝ }
+    requires { ⌜ Known (now counts) (now codes) (now task) (now floats) (now scratch) (now kinds) «f_0» (now «f_0s») (now poses) (now «f_hs») ⌝ }
+    ensures { λ _. ⌜ now (slopes .exit) ≡ splice (now (slopes .entry)) 0 (slopesOf rule (givenIn counts codes task) (now (floats .entry)) (now (scratch .entry))) ⌝ }
     ensures { λ _. ⌜ now (scratch .exit) ≡ now (scratch .entry) ⌝ }
 {
     let mut joint: usize = 0;
@@ -72,7 +72,7 @@ fn put_gradient(
         let asked = Asked { rule, joint, f_0 };
         slopes[joint] = slope(
             asked,
-            sizes,
+            counts,
             codes,
             floats,
             task,
@@ -89,25 +89,25 @@ fn put_gradient(
 // Value and slopes at the block that scratch holds.
 fn gradient_on(
     rule: Rule,
-    sizes: &[u16],
+    counts: &[u16],
     codes: &[u16],
     floats: &[f64],
     task: &[f64],
     scratch: &mut [f64],
     slopes: &mut [f64],
 ) -> f64
-    requires { ⌜ Ready (now sizes) (now codes) (now task) (now floats) (now scratch) × (length (now scratch) ≤ length (now slopes)) ⌝ }
-    ensures { λ r. ⌜ r ≡ valueAt (givenIn sizes codes task) (now (floats .entry)) (now (scratch .entry)) ⌝ }
-    ensures { λ _. ⌜ now (slopes .exit) ≡ splice (now (slopes .entry)) 0 (slopesOf rule (givenIn sizes codes task) (now (floats .entry)) (now (scratch .entry))) ⌝ }
+    requires { ⌜ Ready (now counts) (now codes) (now task) (now floats) (now scratch) × (length (now scratch) ≤ length (now slopes)) ⌝ }
+    ensures { λ r. ⌜ r ≡ valueAt (givenIn counts codes task) (now (floats .entry)) (now (scratch .entry)) ⌝ }
+    ensures { λ _. ⌜ now (slopes .exit) ≡ splice (now (slopes .entry)) 0 (slopesOf rule (givenIn counts codes task) (now (floats .entry)) (now (scratch .entry))) ⌝ }
     ensures { λ _. ⌜ now (scratch .exit) ≡ now (scratch .entry) ⌝ }
 {
     let mut poses = [0.0; 448];
     let mut f_0s = [0.0; 131];
     let mut f_hs = [0.0; 131];
     let mut list = [0u16; 131];
-    let n = relaxed_ik::relaxed_ik(sizes, codes, &mut list);
+    let n = relaxed_ik::relaxed_ik(counts, codes, &mut list);
     let f_0 = value::value_of(
-        sizes,
+        counts,
         codes,
         floats,
         task,
@@ -118,7 +118,7 @@ fn gradient_on(
     );
     put_gradient(
         rule,
-        sizes,
+        counts,
         codes,
         floats,
         task,
@@ -136,7 +136,7 @@ fn gradient_on(
 // The joints are read; scratch is raised joint by joint, and holds the joints in the end.
 pub fn gradient(
     rule: Rule,
-    sizes: &[u16],
+    counts: &[u16],
     codes: &[u16],
     floats: &[f64],
     task: &[f64],
@@ -144,15 +144,15 @@ pub fn gradient(
     scratch: &mut [f64],
     slopes: &mut [f64],
 ) -> f64
-    requires { ⌜ Ready (now sizes) (now codes) (now task) (now floats) (now joints) × (length (now joints) ≤ length (now scratch)) × (length (now joints) ≤ length (now slopes)) ⌝ }
-    ensures { λ r. ⌜ r ≡ valueAt (givenIn sizes codes task) (now (floats .entry)) (now (joints .entry)) ⌝ }
-    ensures { λ _. ⌜ now (slopes .exit) ≡ splice (now (slopes .entry)) 0 (slopesOf rule (givenIn sizes codes task) (now (floats .entry)) (now (joints .entry))) ⌝ }
+    requires { ⌜ Ready (now counts) (now codes) (now task) (now floats) (now joints) × (length (now joints) ≤ length (now scratch)) × (length (now joints) ≤ length (now slopes)) ⌝ }
+    ensures { λ r. ⌜ r ≡ valueAt (givenIn counts codes task) (now (floats .entry)) (now (joints .entry)) ⌝ }
+    ensures { λ _. ⌜ now (slopes .exit) ≡ splice (now (slopes .entry)) 0 (slopesOf rule (givenIn counts codes task) (now (floats .entry)) (now (joints .entry))) ⌝ }
     ensures { λ _. ⌜ now (scratch .exit) ≡ splice (now (scratch .entry)) 0 (now (joints .entry)) ⌝ }
 {
     lists::copy_floats(joints, scratch);
     gradient_on(
         rule,
-        sizes,
+        counts,
         codes,
         floats,
         task,

@@ -16,7 +16,7 @@ ghost use Rattle.gradient.specs.Ready.{Ready};
 
 // The losses of all objectives; `poses` gets the walk.
 pub fn losses_of(
-    sizes: &[u16],
+    counts: &[u16],
     codes: &[u16],
     floats: &[f64],
     task: &[f64],
@@ -24,22 +24,22 @@ pub fn losses_of(
     poses: &mut [f64],
     out: &mut [f64],
 )
-    requires { ⌜ Ready (now sizes) (now codes) (now task) (now floats) (now x) ⌝ }
-    requires { ⌜ (7 * length (now codes) ≤ length (now poses)) × (length (kindsOf (now sizes) (now codes)) ≤ length (now out)) ⌝ }
-    ensures { λ _. ⌜ now (out .exit) ≡ splice (now (out .entry)) 0 (lossesAt (givenIn sizes codes task) (now (floats .entry)) (now (x .entry))) ⌝ }
+    requires { ⌜ Ready (now counts) (now codes) (now task) (now floats) (now x) ⌝ }
+    requires { ⌜ (7 * length (now codes) ≤ length (now poses)) × (length (kindsOf (now counts) (now codes)) ≤ length (now out)) ⌝ }
+    ensures { λ _. ⌜ now (out .exit) ≡ splice (now (out .entry)) 0 (lossesAt (givenIn counts codes task) (now (floats .entry)) (now (x .entry))) ⌝ }
 {
-    arm::get_frames_immutable(sizes, codes, floats, x, poses);
+    arm::get_frames_immutable(counts, codes, floats, x, poses);
     let all = Walked {
         from: 0,
         to: codes.len(),
         joint: 65535,
     };
-    losses::put_losses(sizes, codes, task, x, poses, poses, all, out);
+    losses::put_losses(counts, codes, task, x, poses, poses, all, out);
 }
 
 // The objective's value; `out` gets the losses.
 pub fn value_of(
-    sizes: &[u16],
+    counts: &[u16],
     codes: &[u16],
     floats: &[f64],
     task: &[f64],
@@ -48,25 +48,25 @@ pub fn value_of(
     poses: &mut [f64],
     out: &mut [f64],
 ) -> f64
-    requires { ⌜ Ready (now sizes) (now codes) (now task) (now floats) (now x) × (now kinds ≡ kindsOf (now sizes) (now codes)) ⌝ }
+    requires { ⌜ Ready (now counts) (now codes) (now task) (now floats) (now x) × (now kinds ≡ kindsOf (now counts) (now codes)) ⌝ }
     requires { ⌜ (7 * length (now codes) ≤ length (now poses)) × (length (now kinds) ≤ length (now out)) ⌝ }
-    ensures { λ r. ⌜ r ≡ valueAt (givenIn sizes codes task) (now (floats .entry)) (now (x .entry)) ⌝ }
-    ensures { λ _. ⌜ now (out .exit) ≡ splice (now (out .entry)) 0 (lossesAt (givenIn sizes codes task) (now (floats .entry)) (now (x .entry))) ⌝ }
+    ensures { λ r. ⌜ r ≡ valueAt (givenIn counts codes task) (now (floats .entry)) (now (x .entry)) ⌝ }
+    ensures { λ _. ⌜ now (out .exit) ≡ splice (now (out .entry)) 0 (lossesAt (givenIn counts codes task) (now (floats .entry)) (now (x .entry))) ⌝ }
 {
-    losses_of(sizes, codes, floats, task, x, poses, out);
+    losses_of(counts, codes, floats, task, x, poses, out);
     weights::weighted_sum(parts::weights(task), kinds, out)
 }
 
-pub fn objective(sizes: &[u16], codes: &[u16], floats: &[f64], task: &[f64], x: &[f64]) -> f64
-    requires { ⌜ Ready (now sizes) (now codes) (now task) (now floats) (now x) ⌝ }
-    ensures { λ r. ⌜ r ≡ valueAt (givenIn sizes codes task) (now (floats .entry)) (now (x .entry)) ⌝ }
+pub fn objective(counts: &[u16], codes: &[u16], floats: &[f64], task: &[f64], x: &[f64]) -> f64
+    requires { ⌜ Ready (now counts) (now codes) (now task) (now floats) (now x) ⌝ }
+    ensures { λ r. ⌜ r ≡ valueAt (givenIn counts codes task) (now (floats .entry)) (now (x .entry)) ⌝ }
 {
     let mut poses = [0.0; 448];
     let mut losses = [0.0; 131];
     let mut kinds = [0u16; 131];
-    let n = relaxed_ik::relaxed_ik(sizes, codes, &mut kinds);
+    let n = relaxed_ik::relaxed_ik(counts, codes, &mut kinds);
     value_of(
-        sizes,
+        counts,
         codes,
         floats,
         task,

@@ -46,19 +46,19 @@ unfoldable pub bOf : ℕ → Float
 bOf p = cond (eqb p 30) b30 b20
 
 -- 1 - exp(-(x/b)^p)
-unfoldable pub wallOf : Float → ℕ → Float
-wallOf x p = one ⊖ expOf (neg (powerOf (x ⊘ bOf p) p))
+unfoldable pub boundsPenalty : Float → ℕ → Float
+boundsPenalty x p = one ⊖ expOf (neg (powerOf (x ⊘ bOf p) p))
 
--- -f1·exp(-(x - g)^2 / (2·c^2)) + f2·(x - g)^2 + f3·wall, with p = 20
+-- -f1·exp(-(x - g)^2 / (2·c^2)) + f2·(x - g)^2 + f3·penalty, with p = 20
 unfoldable pub swampGrooveLoss : Float → Float → Float → Float → Float → Float → Float → Float → Float
 swampGrooveLoss x g l u c f1 f2 f3 =
     neg f1 ⊗ expOf (neg (square (x ⊖ g)) ⊘ (two ⊗ square c))
     ⊕ f2 ⊗ square (x ⊖ g)
-    ⊕ f3 ⊗ wallOf (scaledOf x l u) 20
+    ⊕ f3 ⊗ boundsPenalty (scaledOf x l u) 20
 
--- (f1 + f2·x^2)·wall - 1, of the scaled x
+-- (f1 + f2·x^2)·penalty - 1, of the scaled x
 unfoldable pub swampLoss : Float → Float → Float → Float → Float → ℕ → Float
-swampLoss x l u f1 f2 p = (f1 ⊕ f2 ⊗ square (scaledOf x l u)) ⊗ wallOf (scaledOf x l u) p ⊖ one
+swampLoss x l u f1 f2 p = (f1 ⊕ f2 ⊗ square (scaledOf x l u)) ⊗ boundsPenalty (scaledOf x l u) p ⊖ one
 
 -- a loss at x
 unfoldable pub evaluateOf : Loss → Float → Float
@@ -90,8 +90,8 @@ rotationLoss bound =
 
 -- 10 if a joint is a NaN; else swamp from 0.02 to 1.5, factors 60 and 0.0001
 unfoldable pub pairLoss : Bool → Loss
-pairLoss noNumber =
-    cond noNumber (FixedCost (whole 10))
+pairLoss anyNan =
+    cond anyNan (FixedCost (whole 10))
     (Swamp (ofBits binary64 0x3f94_7ae1_47ae_147b) (ofBits binary64 0x3ff8_0000_0000_0000) (whole 60) (ofBits binary64 0x3f1a_36e2_eb1c_432d) 30)
 
 -- a groove at 1
@@ -118,7 +118,7 @@ unfoldable pub matchEERotaDoF : Float → Float → Float
 matchEERotaDoF angle bound = evaluateOf (rotationLoss bound) angle
 
 unfoldable pub selfCollision : Float → Bool → Float
-selfCollision dis noNumber = evaluateOf (pairLoss noNumber) dis
+selfCollision dis anyNan = evaluateOf (pairLoss anyNan) dis
 
 unfoldable pub maximizeManipulability : Float → Float
 maximizeManipulability x = evaluateOf manipulabilityLoss x
@@ -172,20 +172,20 @@ rootsOf v a j = record { velocity = rootOf v; acceleration = rootOf a; jerk = ro
 -- ---- a NaN among the joints
 
 -- one of the first n is a NaN
-unfoldable pub noNumberTo : List Float → ℕ → Bool
-noNumberTo x zero = false
-noNumberTo x (suc n) = noNumberTo x n || ne (getD x n nan) (getD x n nan)
+unfoldable pub anyNanTo : List Float → ℕ → Bool
+anyNanTo x zero = false
+anyNanTo x (suc n) = anyNanTo x n || ne (getD x n nan) (getD x n nan)
 
-unfoldable pub noNumber : List Float → Bool
-noNumber x = noNumberTo x (length x)
+unfoldable pub anyNan : List Float → Bool
+anyNan x = anyNanTo x (length x)
 
 -- a NaN that is met is one of them all
-pub number-missing : (x : List Float) (i n : ℕ) → i < n → ne (getD x i nan) (getD x i nan) ≡ true → noNumberTo x n ≡ true
-unfolding noNumberTo
+pub number-missing : (x : List Float) (i n : ℕ) → i < n → ne (getD x i nan) (getD x i nan) ≡ true → anyNanTo x n ≡ true
+unfolding anyNanTo
 number-missing x i zero h e = absurd (omega arith)
 number-missing x i (suc n) h e =
     ⊎-elim
-    (λ (q : suc i ≡ suc n). let s : i ≡ n = omega arith in or-true (noNumberTo x n) _ (rw (← s) e))
+    (λ (q : suc i ≡ suc n). let s : i ≡ n = omega arith in or-true (anyNanTo x n) _ (rw (← s) e))
     (λ (l : suc i < suc n). rw (number-missing x i n (omega arith) e))
     (eq-or-lt-of-le h)
   where

@@ -2,7 +2,7 @@
 ghost use mathlib.Core.Path.{_≡_};
 ghost use Prim.Native.Nat.{_≤_};
 ghost use lib.ListN.{length};
-ghost use Rattle.groove.specs.Loss.{grooveLoss, scaledOf, wallOf, swampGrooveLoss, swampLoss, evaluateOf, narrowOf, roomLoss, positionLoss, rotationLoss, pairLoss, manipulabilityLoss, freeOf, limitsLoss, changeLoss, matchEEPosiDoF, matchEERotaDoF, selfCollision, maximizeManipulability, eachJointLimits, minimizeVelocity, minimizeAcceleration, minimizeJerk, rootsOf, changesOf, noNumber};
+ghost use Rattle.groove.specs.Loss.{grooveLoss, scaledOf, boundsPenalty, swampGrooveLoss, swampLoss, evaluateOf, narrowOf, roomLoss, positionLoss, rotationLoss, pairLoss, manipulabilityLoss, freeOf, limitsLoss, changeLoss, matchEEPosiDoF, matchEERotaDoF, selfCollision, maximizeManipulability, eachJointLimits, minimizeVelocity, minimizeAcceleration, minimizeJerk, rootsOf, changesOf, anyNan};
 
 // The losses by kind, each with its own centre, bounds, widths and factors.
 pub enum Loss {
@@ -52,8 +52,8 @@ fn scaled(x_val: f64, l_bound: f64, u_bound: f64) -> f64
 }
 
 // Near 0 inside the bounds, near 1 outside. Any power other than 30 counts as 20.
-fn wall(x: f64, p1: u16) -> f64
-    ensures { λ r. ⌜ r ≡ wallOf x p1 ⌝ }
+fn bounds_penalty(x: f64, p1: u16) -> f64
+    ensures { λ r. ⌜ r ≡ boundsPenalty x p1 ⌝ }
 {
     if p1 == 30 {
         return 1.0 - standins::series::exp(-standins::power::power30(x / standins::power::b30()));
@@ -76,14 +76,16 @@ pub fn swamp_groove_loss(
 {
     let x = scaled(x_val, l_bound, u_bound);
     let d = x_val - g;
-    -f1 * standins::series::exp(-(d * d) / (2.0 * (c * c))) + f2 * (d * d) + f3 * wall(x, 20)
+    -f1 * standins::series::exp(-(d * d) / (2.0 * (c * c)))
+        + f2 * (d * d)
+        + f3 * bounds_penalty(x, 20)
 }
 
 pub fn swamp_loss(x_val: f64, l_bound: f64, u_bound: f64, f1: f64, f2: f64, p1: u16) -> f64
     ensures { λ r. ⌜ r ≡ swampLoss «x_val» «l_bound» «u_bound» f1 f2 p1 ⌝ }
 {
     let x = scaled(x_val, l_bound, u_bound);
-    (f1 + f2 * (x * x)) * wall(x, p1) - 1.0
+    (f1 + f2 * (x * x)) * bounds_penalty(x, p1) - 1.0
 }
 
 pub fn evaluate(loss: Loss, x_val: f64) -> f64
@@ -168,10 +170,10 @@ pub fn rotation_loss(bound: f64) -> Loss
     room_loss(bound)
 }
 
-pub fn pair_loss(no_number: bool) -> Loss
-    ensures { λ r. ⌜ r ≡ pairLoss «no_number» ⌝ }
+pub fn pair_loss(any_nan: bool) -> Loss
+    ensures { λ r. ⌜ r ≡ pairLoss «any_nan» ⌝ }
 {
-    if no_number {
+    if any_nan {
         return Loss::FixedCost(10.0);
     }
     Loss::Swamp {
@@ -193,7 +195,8 @@ pub fn manipulability_loss() -> Loss
     }
 }
 
-fn free(l: f64, u: f64) -> bool
+// Whether a pair of limits stands for none.
+pub fn free(l: f64, u: f64) -> bool
     ensures { λ r. ⌜ r ≡ freeOf l u ⌝ }
 {
     l == -999.0 && u == 999.0
@@ -237,10 +240,10 @@ pub fn match_ee_rota_dof(angle: f64, bound: f64) -> f64
     evaluate(rotation_loss(bound), angle)
 }
 
-pub fn self_collision(dis: f64, no_number: bool) -> f64
-    ensures { λ r. ⌜ r ≡ selfCollision dis «no_number» ⌝ }
+pub fn self_collision(dis: f64, any_nan: bool) -> f64
+    ensures { λ r. ⌜ r ≡ selfCollision dis «any_nan» ⌝ }
 {
-    evaluate(pair_loss(no_number), dis)
+    evaluate(pair_loss(any_nan), dis)
 }
 
 pub fn maximize_manipulability(x_val: f64) -> f64
@@ -308,8 +311,8 @@ pub fn joint_changes(x: &[f64], xopt: &[f64], prev_state: &[f64], prev_state2: &
 }
 
 // Whether some joint is a NaN.
-pub fn no_number(x: &[f64]) -> bool
-    ensures { λ r. ⌜ r ≡ noNumber (now (x .entry)) ⌝ }
+pub fn any_nan(x: &[f64]) -> bool
+    ensures { λ r. ⌜ r ≡ anyNan (now (x .entry)) ⌝ }
 {
     let mut i: usize = 0;
     while i < x.len() {

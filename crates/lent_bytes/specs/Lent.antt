@@ -18,7 +18,7 @@ use Rattle.lists.specs.Listed.{listed, length-listed}
 use Rattle.lent_bytes.specs.Bytes.{pairAt, floatAt}
 
 -- How many elements of w bytes a list of n bytes holds. A ragged list, and one longer than any that is taken (cap), count as empty:
--- either way it is of a wrong length, and an empty list is refused with the same number.
+-- of a list that must be there either is a wrong length, and an empty list is refused with the same number.
 unfoldable pub countIn : ℕ → ℕ → ℕ → ℕ
 countIn w cap n = cond (eqb (n % w) 0) (cond (ltb cap (n / w)) 0 (n / w)) 0
 
@@ -132,9 +132,9 @@ pub numbers-length : (cap : ℕ) (b : List ℕ) → length (numbersIn cap b) ≡
 unfolding numbersIn
 numbers-length cap b = length-listed (numberAt b) (countIn 2 cap (length b))
 
-pub no-numbers : (cap : ℕ) (b : List ℕ) → Misfit 2 cap (length b) → numbersIn cap b ≡ []
+pub no-nans : (cap : ℕ) (b : List ℕ) → Misfit 2 cap (length b) → numbersIn cap b ≡ []
 unfolding numbersIn listed runs
-no-numbers cap b m = rw (none-counted 2 cap (length b) m)
+no-nans cap b m = rw (none-counted 2 cap (length b) m)
 
 pub no-floats : (cap : ℕ) (b : List ℕ) → Misfit 8 cap (length b) → floatsIn cap b ≡ []
 unfolding floatsIn listed runs

@@ -2,21 +2,12 @@
 use mathlib.Core.Path.{_≡_, ap, _∙_}
 use mathlib.Core.List.{List}
 use Prim.Native.Nat.{ℕ}
-use denote.Ref.{RefT, now}
-use denote.Triple.Both.{Both}
 use lib.Ieee.{Float}
 use lib.ListN.{length, take}
+use Rattle.lists.specs.Lent.{LentList, lent}
 use Rattle.lent_bytes.specs.Lent.{Front, numbersIn, floatsIn, roomIn}
 use Rattle.lent_bytes.specs.declared.sheet_lists.SheetCounts.{SheetCounts}
 use Rattle.lent_bytes.specs.declared.task_lists.TaskCounts.{TaskCounts}
-
--- a list that a call is lent, as a contract has its name: the list at entry, and X, what is seen of it at exit
-abbrev pub LentList : Type 0 → Type 0 → Type 0
-LentList A X = Both (RefT (List A)) X
-
--- what it held as the call began
-abbrev pub lent : {A X : Type 0} → LentList A X → List A
-lent xs = now (xs .entry)
 
 -- the arm sheet and its limits
 pub record SheetLists : Type 0 where
@@ -32,18 +23,30 @@ sheetWith sizes codes floats limits = record { sizes = sizes; codes = codes; flo
 abbrev pub sheetOf : {X Y Z W : Type 0} → LentList ℕ X → LentList ℕ Y → LentList Float Z → LentList Float W → SheetLists
 sheetOf sizes codes floats limits = sheetWith (lent sizes) (lent codes) (lent floats) (lent limits)
 
-abbrev pub sheetIn : {X Y Z W : Type 0} → LentList ℕ X → LentList ℕ Y → LentList ℕ Z → LentList ℕ W → SheetLists
-sheetIn sizes codes floats limits = sheetWith (numbersIn 5 (lent sizes)) (numbersIn 64 (lent codes)) (floatsIn 448 (lent floats)) (floatsIn 32 (lent limits))
+abbrev pub sheetFrom : List ℕ → List ℕ → List ℕ → List ℕ → SheetLists
+sheetFrom sizes codes floats limits = sheetWith (numbersIn 5 sizes) (numbersIn 64 codes) (floatsIn 448 floats) (floatsIn 32 limits)
 
--- a joint block, goals and a history as bytes
+abbrev pub sheetIn : {X Y Z W : Type 0} → LentList ℕ X → LentList ℕ Y → LentList ℕ Z → LentList ℕ W → SheetLists
+sheetIn sizes codes floats limits = sheetFrom (lent sizes) (lent codes) (lent floats) (lent limits)
+
+-- a joint block, goals and a history as bytes, each with the longest that is taken
+abbrev pub blockFrom : List ℕ → List Float
+blockFrom joints = floatsIn 16 joints
+
+abbrev pub goalsFrom : List ℕ → List Float
+goalsFrom goals = floatsIn 52 goals
+
+abbrev pub historyFrom : List ℕ → List Float
+historyFrom history = floatsIn 64 history
+
 abbrev pub blockIn : {X : Type 0} → LentList ℕ X → List Float
-blockIn joints = floatsIn 16 (lent joints)
+blockIn joints = blockFrom (lent joints)
 
 abbrev pub goalsIn : {X : Type 0} → LentList ℕ X → List Float
-goalsIn goals = floatsIn 52 (lent goals)
+goalsIn goals = goalsFrom (lent goals)
 
 abbrev pub historyIn : {X : Type 0} → LentList ℕ X → List Float
-historyIn history = floatsIn 64 (lent history)
+historyIn history = historyFrom (lent history)
 
 -- the room in floats of an output
 abbrev pub roomOf : {X : Type 0} → LentList ℕ X → ℕ

@@ -26,16 +26,12 @@ use Rattle.sheet.specs.declared.code.Kind.{Kind}
 use Rattle.sheet.specs.declared.code.Kind.the-variants.{Fixed, Turning, Sliding, Unlisted}
 use Rattle.sheet.specs.Code.{hasJoint, axisIn, kindOf}
 use Rattle.sheet.specs.Read.{kindAt}
-use Rattle.sheet.specs.Chain.{total, chainStart, chain-start-next, chain-start-mono, chain-start-total, jointsOf, jointOf, joints, joint-more, joint-mono, joint-last, below-or}
+use Rattle.sheet.specs.Chain.{total, chainStart, chain-start-next, chain-start-mono, chain-start-total, jointsOf, jointOf, joints, joint-more, joint-mono, joint-last, below-or, jointsIn}
 use Rattle.manipulability.specs.declared.jacobian.Fill.{Fill}
 use Rattle.spacetime.specs.Link.{vecIf, alongOf}
 use Rattle.spacetime.specs.Floats.{flatVec}
 
 -- ---- the axes of the chain's joints
-
--- how many joints the chain has
-abbrev pub jointsIn : List ℕ → ℕ → ℕ → ℕ
-jointsIn cs f e = jointOf cs e - jointOf cs f
 
 -- link l's axis; a fixed link has none to add
 unfoldable pub axisPiece : List ℕ → ℕ → List ℕ

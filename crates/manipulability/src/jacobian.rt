@@ -18,9 +18,9 @@ ghost use Prim.Native.Nat.{_+_, _-_, _*_, _≤_, _<_};
 ghost use lib.ListN.{length, getD, take};
 ghost use Rattle.lists.specs.Splice.{splice};
 ghost use Rattle.lists.specs.Listed.{listed};
-ghost use Rattle.sheet.specs.Chain.{jointsOf};
+ghost use Rattle.sheet.specs.Chain.{jointsOf, jointsIn};
 ghost use Rattle.manipulability.specs.View.{viewOf, View};
-ghost use Rattle.manipulability.specs.Jacobian.{jointsIn, axisPiece, axesOf, fillingOf, unitOf, startFilling, axisVector, columnOf, filledOf, turnsAt, stepAt, jacobianOf, manipulabilityIn, Part};
+ghost use Rattle.manipulability.specs.Jacobian.{axisPiece, axesOf, fillingOf, unitOf, startFilling, axisVector, columnOf, filledOf, turnsAt, stepAt, jacobianOf, manipulabilityIn, Part};
 
 // What the walk of a chain carries beside the matrix.
 pub struct Fill {

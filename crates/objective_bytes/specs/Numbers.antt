@@ -12,16 +12,16 @@ use Rattle.calls.specs.Rows.{room-alone}
 use Rattle.lent_bytes.specs.SheetLists.{SheetLists}
 use Rattle.arm_bytes.specs.ArmCalls.{loadNumber}
 use Rattle.arm_bytes.specs.Numbers.{first-assoc, block-then, history-then, sheetRows, after-load}
-use Rattle.objective_bytes.specs.ObjectiveCalls.{aimedNumber, objectiveNumber, slopesNumber}
+use Rattle.objective_bytes.specs.ObjectiveCalls.{taskNumber, objectiveNumber, slopesNumber}
 
 module _ (s : SheetLists) (goals history x : List Float) where
   -- the conditions of sheet, joints, history and goals, 1 to 8, before a call's own
-  abbrev pub aimedRows : List Row → List Row
-  aimedRows rs = sheetRows s ++ (blockRow (s .codes) x ∷ historyRow (s .codes) history ∷ goalsRow (chainsOf (s .sizes)) goals ∷ rs)
+  abbrev pub taskRows : List Row → List Row
+  taskRows rs = sheetRows s ++ (blockRow (s .codes) x ∷ historyRow (s .codes) history ∷ goalsRow (chainsOf (s .sizes)) goals ∷ rs)
 
-  pub aimed-then : (n : ℕ) (rs : List Row) → n ≡ firstRow rs → firstOf (aimedNumber s goals history x) n ≡ firstRow (aimedRows rs)
-  unfolding aimedNumber
-  aimed-then n rs e =
+  pub task-then : (n : ℕ) (rs : List Row) → n ≡ firstRow rs → firstOf (taskNumber s goals history x) n ≡ firstRow (taskRows rs)
+  unfolding taskNumber
+  task-then n rs e =
       let a = blockRefusal (s .codes) x in
       let b = historyRefusal (s .codes) history in
       let g = goalsRefusal (chainsOf (s .sizes)) goals in
@@ -30,17 +30,17 @@ module _ (s : SheetLists) (goals history x : List Float) where
       (first-assoc (firstOf a b) g n ∙ first-assoc a b (firstOf g n)
       ∙ block-then (s .codes) x _ _ (history-then (s .codes) history _ _ (ap (firstOf g) e ∙ goals-row (chainsOf (s .sizes)) goals rs)))
 
-  pub objective-number-lowest : (value : ℕ) → IsLowest (aimedRows (roomRow valueLength value ∷ [])) (objectiveNumber s goals history x value)
+  pub objective-number-lowest : (value : ℕ) → IsLowest (taskRows (roomRow valueLength value ∷ [])) (objectiveNumber s goals history x value)
   unfolding objectiveNumber upFrom
-  objective-number-lowest value = lowest-row _ _ refl (aimed-then _ _ (room-alone valueLength value))
+  objective-number-lowest value = lowest-row _ _ refl (task-then _ _ (room-alone valueLength value))
 
   pub slopes-number-lowest : (scratch value slopes : ℕ)
-      → IsLowest (aimedRows (roomRow (scratchLength (s .codes)) scratch ∷ roomRow valueLength value ∷ roomRow (slopesLength (s .codes)) slopes ∷ [])) (slopesNumber s goals history x scratch value slopes)
+      → IsLowest (taskRows (roomRow (scratchLength (s .codes)) scratch ∷ roomRow valueLength value ∷ roomRow (slopesLength (s .codes)) slopes ∷ [])) (slopesNumber s goals history x scratch value slopes)
   unfolding slopesNumber upFrom
   slopes-number-lowest scratch value slopes =
       let k = joints (s .codes) in
       lowest-row _ _ refl
-      (aimed-then _ _
+      (task-then _ _
       (ap (λ (n : ℕ). firstOf (roomRefusal k scratch) (firstOf (roomRefusal valueLength value) n)) (room-alone k slopes)
       ∙ ap (firstOf (roomRefusal k scratch)) (room-row valueLength value (roomRow k slopes ∷ []))
       ∙ room-row k scratch (roomRow valueLength value ∷ roomRow k slopes ∷ [])))

@@ -16,27 +16,27 @@ use Rattle.arm_bytes.specs.ArmCalls.{loadNumber}
 
 -- ---- the numbers: those of loading, 1 to 6, then the call's own; 0 is accepted. Rooms are in floats.
 -- joints x, a history of four joint blocks, and goals: 7 for either of the blocks, then 8
-unfoldable pub aimedNumber : SheetLists → List Float → List Float → List Float → ℕ
-aimedNumber s goals history x =
+unfoldable pub taskNumber : SheetLists → List Float → List Float → List Float → ℕ
+taskNumber s goals history x =
     firstOf (loadNumber s)
     (firstOf (firstOf (blockRefusal (s .codes) x) (historyRefusal (s .codes) history)) (goalsRefusal (chainsOf (s .sizes)) goals))
 
 -- the objective: then 9 for an output without room for one float
 unfoldable pub objectiveNumber : SheetLists → List Float → List Float → List Float → ℕ → ℕ
-objectiveNumber s goals history x value = firstOf (aimedNumber s goals history x) (roomRefusal valueLength value)
+objectiveNumber s goals history x value = firstOf (taskNumber s goals history x) (roomRefusal valueLength value)
 
 -- a gradient: then 9 for any of its outputs
 unfoldable pub slopesNumber : SheetLists → List Float → List Float → List Float → ℕ → ℕ → ℕ → ℕ
 slopesNumber s goals history x scratch value slopes =
-    firstOf (aimedNumber s goals history x)
+    firstOf (taskNumber s goals history x)
     (firstOf (roomRefusal (scratchLength (s .codes)) scratch) (firstOf (roomRefusal valueLength value) (roomRefusal (slopesLength (s .codes)) slopes)))
 
 -- ---- what they write, in floats
 -- what the objective is given: the built-in weights, and the history's blocks xopt, prev_state and prev_state2; the fourth is not read
-unfoldable pub givenIn : SheetLists → List Float → List Float → Given
-givenIn s goals history =
+unfoldable pub givenLent : SheetLists → List Float → List Float → Given
+givenLent s goals history =
     record {
-      sizes = linksOf (s .sizes);
+      counts = linksOf (s .sizes);
       codes = s .codes;
       weights = weightPriors;
       limits = s .limits;
@@ -48,7 +48,7 @@ givenIn s goals history =
 
 -- the objective's value at block x
 unfoldable pub valueIn : SheetLists → List Float → List Float → List Float → Float
-valueIn s goals history x = valueAt (givenIn s goals history) (s .floats) x
+valueIn s goals history x = valueAt (givenLent s goals history) (s .floats) x
 
 -- as one float
 abbrev pub objectiveValue : SheetLists → List Float → List Float → List Float → List Float
@@ -56,7 +56,7 @@ objectiveValue s goals history x = valueIn s goals history x ∷ []
 
 -- the slopes along the joints, by either rule
 unfoldable pub slopesIn : Rule → SheetLists → List Float → List Float → List Float → List Float
-slopesIn rule s goals history x = slopesOf rule (givenIn s goals history) (s .floats) x
+slopesIn rule s goals history x = slopesOf rule (givenLent s goals history) (s .floats) x
 
 -- by steps of 1e-7 and of 1e-6
 abbrev pub gradientSlopes : SheetLists → List Float → List Float → List Float → List Float

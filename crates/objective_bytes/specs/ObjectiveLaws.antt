@@ -12,19 +12,15 @@ use Rattle.task.specs.Laid.{Apart, apartIn, laid, Fit, Full, givenApart, laid-g
 use Rattle.refusals.specs.Lowest.{first-none}
 use Rattle.refusals.specs.Refusal.{linksOf}
 use Rattle.refusals.specs.Passed.{load-passed, block-passed, history-passed, goals-passed}
-use Rattle.objective_master.specs.Weights.{weightPriors}
+use Rattle.objective_master.specs.Weights.{weightPriors, weights-eight}
 use Rattle.gradient.specs.Gradient.{slopes-length}
 use Rattle.gradient.specs.Ready.{Ready}
 use Rattle.gradient.specs.declared.slopes.Rule.{Rule}
-use Rattle.objective_calls.specs.Aimed.{ready-of, load-aimed}
+use Rattle.calls.specs.AcceptedTask.{ready-of, load-task}
 use Rattle.lent_bytes.specs.Lent.{roomIn}
 use Rattle.lent_bytes.specs.SheetLists.{SheetLists, same-two, same-three}
 use Rattle.arm_bytes.specs.ArmLaws.{bytes-fit}
-use Rattle.objective_bytes.specs.ObjectiveCalls.{aimedNumber, slopesNumber, givenIn, slopesIn}
-
-eight-weights : length weightPriors ≡ 8
-unfolding weightPriors
-eight-weights = refl
+use Rattle.objective_bytes.specs.ObjectiveCalls.{taskNumber, slopesNumber, givenLent, slopesIn}
 
 -- what a call knows whose sheet, joints, history and goals are accepted
 pub record Taken (s : SheetLists) (goals history x : List Float) : Type 0 where
@@ -36,9 +32,9 @@ pub record Taken (s : SheetLists) (goals history x : List Float) : Type 0 where
   pub chains : length (linksOf (s .sizes)) ≤ 4
   pub ready : (task : List Float) → length task ≡ taskLength → Ready (linksOf (s .sizes)) (s .codes) task (s .floats) x
 
-pub aimed-taken : (s : SheetLists) (goals history x : List Float) → aimedNumber s goals history x ≡ 0 → Taken s goals history x
-unfolding aimedNumber
-aimed-taken s goals history x e =
+pub task-taken : (s : SheetLists) (goals history x : List Float) → taskNumber s goals history x ≡ 0 → Taken s goals history x
+unfolding taskNumber
+task-taken s goals history x e =
     let a = first-none _ _ e in
     let b = first-none _ _ (a .1) in
     let d = first-none _ _ (b .0) in
@@ -50,7 +46,7 @@ aimed-taken s goals history x e =
       pairs = l .1;
       each = goals-passed _ goals (b .1) ∙ ap (λ (n : ℕ). 13 * n) (sym (l .0 .sized .long));
       chains = omega (arith, l .0 .sized .long, l .0 .sized .few);
-      ready = λ task w. ready-of (linksOf (s .sizes)) (s .codes) task (s .floats) x (load-aimed (s .sizes) (s .codes) task (s .floats) w (s .limits) (a .0)) (d .0);
+      ready = λ task w. ready-of (linksOf (s .sizes)) (s .codes) task (s .floats) x (load-task (s .sizes) (s .codes) task (s .floats) w (s .limits) (a .0)) (d .0);
     }
 
 -- ---- the list that such a call lays
@@ -74,7 +70,7 @@ module _ (s : SheetLists) (goals history x : List Float) (k : Taken s goals hist
   fit : Fit (lists N)
   fit =
       record {
-        weights = omega (arith, eight-weights);
+        weights = omega (arith, weights-eight);
         limits = omega (arith, k .pairs, k .few);
         goals = omega (arith, k .each, k .chains);
         xopt = omega (arith, block₀, k .few);
@@ -85,7 +81,7 @@ module _ (s : SheetLists) (goals history x : List Float) (k : Taken s goals hist
   full : Full (linksOf (s .sizes)) (s .codes) (lists N)
   full =
       record {
-        weights = omega (arith, eight-weights);
+        weights = omega (arith, weights-eight);
         limits = omega (arith, k .pairs);
         goals = omega (arith, k .each);
         xopt = omega (arith, block₀);
@@ -94,10 +90,10 @@ module _ (s : SheetLists) (goals history x : List Float) (k : Taken s goals hist
       }
 
   -- each list is lent as long as it is in use
-  apart-taken : givenApart (linksOf (s .sizes)) (s .codes) (lists N) ≡ givenIn s goals history
-  unfolding givenApart givenIn
+  apart-taken : givenApart (linksOf (s .sizes)) (s .codes) (lists N) ≡ givenLent s goals history
+  unfolding givenApart givenLent
   apart-taken =
-      let e₁ : take 8 weightPriors ≡ weightPriors = take-all 8 weightPriors (omega (arith, eight-weights)) in
+      let e₁ : take 8 weightPriors ≡ weightPriors = take-all 8 weightPriors (omega (arith, weights-eight)) in
       let e₂ : take (2 * N) (s .limits) ≡ s .limits = take-all (2 * N) (s .limits) (omega (arith, k .pairs)) in
       let e₃ : take (13 * length (linksOf (s .sizes))) goals ≡ goals = take-all (13 * length (linksOf (s .sizes))) goals (omega (arith, k .each)) in
       let e₄ : take N (part 0 N history) ≡ part 0 N history = take-all N (part 0 N history) (omega (arith, block₀)) in
@@ -111,7 +107,7 @@ module _ (s : SheetLists) (goals history x : List Float) (k : Taken s goals hist
 
   -- the objective finds in it what is lent
   pub laid-taken : (ns : List ℕ) (t task : List Float) → ns ≡ linksOf (s .sizes) → length t ≡ taskLength → task ≡ laid (lists (length x)) t
-      → givenOf ns (s .codes) task ≡ givenIn s goals history
+      → givenOf ns (s .codes) task ≡ givenLent s goals history
   laid-taken ns t task e w h =
       same-two (λ ns′ t′. givenOf ns′ (s .codes) t′) e (h ∙ ap (λ n. laid (lists n) t) (k .block))
       ∙ laid-given (lists N) t w fit (linksOf (s .sizes)) (s .codes) full (k .chains) (k .few)
@@ -123,7 +119,7 @@ module _ (s : SheetLists) (goals history x : List Float) (k : Taken s goals hist
 -- as many slopes as joints
 pub slopes-in-length : (rule : Rule) (s : SheetLists) (goals history x : List Float) → length (slopesIn rule s goals history x) ≡ length x
 unfolding slopesIn
-slopes-in-length rule s goals history x = slopes-length rule (givenIn s goals history) (s .floats) x
+slopes-in-length rule s goals history x = slopes-length rule (givenLent s goals history) (s .floats) x
 
 -- lists that are equal
 pub same-four : {A B C D E : Type 0} (f : A → B → C → D → E) {a a′ : A} {b b′ : B} {c c′ : C} {d d′ : D} → a ≡ a′ → b ≡ b′ → c ≡ c′ → d ≡ d′ → f a b c d ≡ f a′ b′ c′ d′
@@ -131,7 +127,7 @@ same-four f {a′ = a′} {b′ = b′} {c′ = c′} {d = d} p q r t = same-thr
 
 -- what a gradient knows that is accepted with outputs of so many bytes
 pub record Fitted (s : SheetLists) (goals history x : List Float) (a b d : ℕ) : Type 0 where
-  pub aimed : aimedNumber s goals history x ≡ 0
+  pub accepted : taskNumber s goals history x ≡ 0
   pub few : length x ≤ 16
   pub scratch : 8 * length x ≤ a
   pub value : 8 ≤ b
@@ -145,9 +141,9 @@ slopes-fitted s goals history x a b d e =
     let p = first-none _ _ e in
     let q = first-none _ _ (p .1) in
     let r = first-none _ _ (q .1) in
-    let t : Taken s goals history x = aimed-taken s goals history x (p .0) in
+    let t : Taken s goals history x = task-taken s goals history x (p .0) in
     record {
-      aimed = p .0;
+      accepted = p .0;
       few = omega (arith, t .block, t .few);
       scratch = omega (arith, t .block, bytes-fit n a (roomIn a) refl (q .0));
       value = omega (arith, bytes-fit 1 b (roomIn b) refl (r .0));

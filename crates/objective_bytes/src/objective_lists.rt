@@ -18,11 +18,12 @@ ghost use Rattle.task.specs.Task.{taskLength};
 ghost use Rattle.task.specs.Laid.{apartIn, Fit, laid};
 ghost use Rattle.objective_master.specs.Weights.{weightPriors};
 ghost use Rattle.lent_bytes.specs.Lent.{roomIn, bytesOf};
-ghost use Rattle.lent_bytes.specs.SheetLists.{lent, sheetWith, sheetOf, roomOf};
+ghost use Rattle.lists.specs.Lent.{lent};
+ghost use Rattle.lent_bytes.specs.SheetLists.{sheetWith, sheetOf, roomOf};
 ghost use Rattle.arm_bytes.specs.ArmCalls.{outputOf};
-ghost use Rattle.objective_bytes.specs.ObjectiveCalls.{aimedNumber, objectiveNumber, slopesNumber, valueIn, objectiveValue, slopesIn};
+ghost use Rattle.objective_bytes.specs.ObjectiveCalls.{taskNumber, objectiveNumber, slopesNumber, valueIn, objectiveValue, slopesIn};
 
-pub fn aimed_number(
+pub fn task_number(
     sizes: &[u16],
     codes: &[u16],
     floats: &[f64],
@@ -31,7 +32,7 @@ pub fn aimed_number(
     history: &[f64],
     joints: &[f64],
 ) -> u16
-    ensures { λ r. ⌜ r ≡ aimedNumber (sheetOf sizes codes floats limits) (lent goals) (lent history) (lent joints) ⌝ }
+    ensures { λ r. ⌜ r ≡ taskNumber (sheetOf sizes codes floats limits) (lent goals) (lent history) (lent joints) ⌝ }
 {
     let load = load::load_refusal(sizes, codes, floats, limits);
     if load != 0 {
@@ -59,12 +60,15 @@ fn slopes_number(
 ) -> u16
     ensures { λ r. ⌜ r ≡ slopesNumber (sheetOf sizes codes floats limits) (lent goals) (lent history) (lent joints) (roomIn scratch) (roomIn value) (roomIn slopes) ⌝ }
 {
-    let aimed = aimed_number(sizes, codes, floats, limits, goals, history, joints);
+    let of_task = task_number(sizes, codes, floats, limits, goals, history, joints);
     let n = lengths::block_length(codes);
     let first = lent::room_refusal(n, bytes_lent::room(scratch));
     let second = lent::room_refusal(1, bytes_lent::room(value));
     let third = lent::room_refusal(n, bytes_lent::room(slopes));
-    lent::first_of(aimed, lent::first_of(first, lent::first_of(second, third)))
+    lent::first_of(
+        of_task,
+        lent::first_of(first, lent::first_of(second, third)),
+    )
 }
 
 // The list that the objective reads, with the built-in weights, for n joints.
@@ -86,7 +90,7 @@ fn value_on(
     history: &[f64],
     joints: &[f64],
 ) -> f64
-    requires { ⌜ aimedNumber (sheetWith (now sizes) (now codes) (now floats) (now limits)) (now goals) (now history) (now joints) ≡ 0 ⌝ }
+    requires { ⌜ taskNumber (sheetWith (now sizes) (now codes) (now floats) (now limits)) (now goals) (now history) (now joints) ≡ 0 ⌝ }
     ensures { λ r. ⌜ r ≡ valueIn (sheetOf sizes codes floats limits) (lent goals) (lent history) (lent joints) ⌝ }
 {
     let counts = shape::links(sizes);
@@ -108,7 +112,7 @@ fn slopes_on(
     scratch: &mut [f64],
     slopes: &mut [f64],
 ) -> f64
-    requires { ⌜ (aimedNumber (sheetWith (now sizes) (now codes) (now floats) (now limits)) (now goals) (now history) (now joints) ≡ 0) × (length (now scratch) ≡ 16) × (length (now slopes) ≡ 16) ⌝ }
+    requires { ⌜ (taskNumber (sheetWith (now sizes) (now codes) (now floats) (now limits)) (now goals) (now history) (now joints) ≡ 0) × (length (now scratch) ≡ 16) × (length (now slopes) ≡ 16) ⌝ }
     ensures { λ r. ⌜ r ≡ valueIn (sheetOf sizes codes floats limits) (lent goals) (lent history) (lent joints) ⌝ }
     ensures { λ _. ⌜ now (slopes .exit) ≡ splice (lent slopes) 0 (slopesIn rule (sheetOf sizes codes floats limits) (lent goals) (lent history) (lent joints)) ⌝ }
     ensures { λ _. ⌜ now (scratch .exit) ≡ splice (lent scratch) 0 (lent joints) ⌝ }
@@ -154,9 +158,9 @@ pub(crate) fn objective(
     ensures number { λ r. ⌜ r ≡ objectiveNumber (sheetOf sizes codes floats limits) (lent goals) (lent history) (lent joints) (roomOf value) ⌝ }
     ensures value { λ r. ⌜ now (value .exit) ≡ outputOf r value (objectiveValue (sheetOf sizes codes floats limits) (lent goals) (lent history) (lent joints)) ⌝ }
 {
-    let aimed = aimed_number(sizes, codes, floats, limits, goals, history, joints);
+    let of_task = task_number(sizes, codes, floats, limits, goals, history, joints);
     let nine = lent::room_refusal(1, bytes_lent::room(value.len()));
-    let number = lent::first_of(aimed, nine);
+    let number = lent::first_of(of_task, nine);
     if number != 0 {
         return number;
     }

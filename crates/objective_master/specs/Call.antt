@@ -5,7 +5,7 @@ use lib.Ieee.{Float}
 use lib.ListN.{length}
 use Rattle.geometry.specs.declared.pose.Pose.{Pose}
 use Rattle.task.specs.Task.{Given}
-use Rattle.self_collision.specs.Pairs.{chainLength}
+use Rattle.sheet.specs.Chain.{chainLength}
 use Rattle.objective_master.specs.Losses.{lossesOf, objectivesOf}
 use Rattle.objective_master.specs.Weights.{weightedOf}
 

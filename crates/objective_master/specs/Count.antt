@@ -8,30 +8,24 @@ use native.Mathlib.Numerals.{add-one}
 use native.Mathlib.Omega.{arith}
 use lib.ListN.{length, getD}
 use Rattle.lists.specs.Runs.{runs}
-use Rattle.sheet.specs.Chain.{total, chainStart, chain-start-next, chain-start-total, jointOf, joints, joint-zero, joint-last, joint-mono, below-or}
+use Rattle.sheet.specs.Chain.{total, chainStart, chain-start-next, chain-start-total, jointOf, joints, joint-zero, joint-last, joint-mono, below-or, chainLength}
 use Rattle.manipulability.specs.Jacobian.{Counted, chain-part}
-use Rattle.self_collision.specs.Pairs.{pairsFrom, pairsOf, chainPairs, allPairs, chainLength, chainLengths, triangle, row-length, count-more, chain-pairs, pair-count, lengths-count}
-use Rattle.objective_master.specs.Objective.{objectives, count}
+use Rattle.self_collision.specs.Pairs.{chainPairs, allPairs, firstArm, chainLengths, triangle, count-more, chain-count, lengths-count}
+use Rattle.objective_master.specs.Objective.{goalWidth, sourceList, objectives, count}
 use Rattle.objective_master.specs.Losses.{lengths-total}
 
 -- ---- laws
-row-count : (n j : ℕ) → length (pairsFrom n j) ≡ n - (j + 2)
-unfolding pairsFrom
-row-count n j = row-length j (n - (j + 2))
-
-pub rows-more : (n j s : ℕ) → s ≡ length (runs (pairsFrom n) 0 j) → s + (n - (j + 2)) ≡ length (runs (pairsFrom n) 0 (j + 1))
-rows-more n j s e = omega (arith, count-more (pairsFrom n) j, row-count n j)
 
 -- the count by chains, joints and pairs
-pub count-is : (ns cs : List ℕ) (j s : ℕ) → total ns ≡ length cs → j ≡ jointOf cs (chainStart ns (length ns)) → s ≡ length (runs (chainPairs (chainLengths ns cs)) 0 (length ns))
-    → 6 * length ns + j + 4 + s ≡ length (objectives (chainLengths ns cs))
+pub count-is : (ns cs : List ℕ) (j s : ℕ) → total ns ≡ length cs → j ≡ jointOf cs (chainStart ns (length ns)) → s ≡ length (runs (chainPairs firstArm (chainLengths ns cs)) 0 (length ns))
+    → goalWidth * length ns + j + 4 + s ≡ length (objectives sourceList (chainLengths ns cs))
 unfolding allPairs
 count-is ns cs j s w e₁ e₂ =
     let n : length (chainLengths ns cs) ≡ length ns = lengths-count ns cs in
     let m : jointOf cs (chainStart ns (length ns)) ≡ joints cs = ap (jointOf cs) (chain-start-total ns ∙ w) ∙ joint-last cs in
-    let p : length (runs (chainPairs (chainLengths ns cs)) 0 (length ns)) ≡ length (allPairs (chainLengths ns cs)) =
-    ap (λ (k : ℕ). length (runs (chainPairs (chainLengths ns cs)) 0 k)) (sym n) in
-    omega (arith, count (chainLengths ns cs), lengths-total ns cs w)
+    let p : length (runs (chainPairs firstArm (chainLengths ns cs)) 0 (length ns)) ≡ length (allPairs firstArm (chainLengths ns cs)) =
+    ap (λ (k : ℕ). length (runs (chainPairs firstArm (chainLengths ns cs)) 0 k)) (sym n) in
+    omega (arith, count sourceList (chainLengths ns cs), lengths-total ns cs w)
 
 triangle-twice : (m : ℕ) → 2 * triangle m ≡ m * suc m
 unfolding triangle
@@ -39,11 +33,9 @@ triangle-twice zero = refl
 triangle-twice (suc m) = omega (arith, triangle-twice m, suc-mul m (suc (suc m)), mul-comm m (suc (suc m)), suc-mul (suc m) m, suc-mul m m, mul-comm m (suc m))
 
 -- 16 joints at most, so 15/2 pairs a joint past the second
-few-pairs : (n : ℕ) → 2 ≤ n → n ≤ 16 → 2 * length (pairsOf n) + 30 ≤ 15 * n
+few-pairs : (n : ℕ) → 2 ≤ n → n ≤ 16 → 2 * triangle (n - 2) + 30 ≤ 15 * n
 few-pairs n a b =
     let m : ℕ = n - 2 in
-    let e : m + 2 ≡ n = omega arith in
-    let p : length (pairsOf n) ≡ triangle m = ap (λ (k : ℕ). length (pairsOf k)) (sym e) ∙ pair-count m in
     let l : m * suc m ≤ m * 15 = mul-le-mul-left m (omega arith) in
     omega (arith, triangle-twice m)
 
@@ -60,23 +52,22 @@ module _ (ns cs : List ℕ) (s : Counted ns cs) (two : (c : ℕ) → c < length 
       let e : chainStart ns (c + 1) ≡ chainStart ns (suc c) = rw add-one in
       omega (arith, ap (jointOf cs) e, joint-mono cs (chainStart ns c) (chainStart ns (c + 1)) (omega (arith, chain-start-next ns c)))
 
-  few-to : (c : ℕ) → c ≤ length ns → 2 * length (runs (chainPairs (chainLengths ns cs)) 0 c) + 30 * c ≤ 15 * jointOf cs (chainStart ns c)
+  few-to : (c : ℕ) → c ≤ length ns → 2 * length (runs (chainPairs firstArm (chainLengths ns cs)) 0 c) + 30 * c ≤ 15 * jointOf cs (chainStart ns c)
   unfolding runs
   few-to zero h = omega arith
   few-to (suc c) h =
       let l : c < length ns = omega arith in
       let n : ℕ = chainLength ns cs c in
       let most : n ≤ 16 = length-most c l in
-      let p : length (pairsOf n) ≡ length (chainPairs (chainLengths ns cs) c) = ap length (chain-pairs ns cs c l n refl) in
-      omega (arith, few-to c (omega arith), few-pairs n (two c l) most, more c, joint-more-chain c)
+      omega (arith, few-to c (omega arith), few-pairs n (two c l) most, chain-count ns cs c l firstArm n refl, more c, joint-more-chain c)
     where
-      more : (c : ℕ) → length (runs (chainPairs (chainLengths ns cs)) 0 (suc c)) ≡ length (runs (chainPairs (chainLengths ns cs)) 0 c) + length (chainPairs (chainLengths ns cs) c)
-      more c = rw add-one at (count-more (chainPairs (chainLengths ns cs)) c)
+      more : (c : ℕ) → length (runs (chainPairs firstArm (chainLengths ns cs)) 0 (suc c)) ≡ length (runs (chainPairs firstArm (chainLengths ns cs)) 0 c) + length (chainPairs firstArm (chainLengths ns cs) c)
+      more c = rw add-one at (count-more (chainPairs firstArm (chainLengths ns cs)) c)
 
-  pub objectives-few : length (objectives (chainLengths ns cs)) ≤ 131
+  pub objectives-few : length (objectives sourceList (chainLengths ns cs)) ≤ 131
   unfolding chainStart
   objectives-few =
-      let c = count-is ns cs (jointOf cs (chainStart ns (length ns))) (length (runs (chainPairs (chainLengths ns cs)) 0 (length ns))) (s .whole) refl refl in
+      let c = count-is ns cs (jointOf cs (chainStart ns (length ns))) (length (runs (chainPairs firstArm (chainLengths ns cs)) 0 (length ns))) (s .whole) refl refl in
       let m : jointOf cs (chainStart ns (length ns)) ≡ joints cs = ap (jointOf cs) (chain-start-total ns ∙ s .whole) ∙ joint-last cs in
       let f = few-to (length ns) (omega arith) in
       ⊎-elim

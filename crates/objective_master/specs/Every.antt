@@ -10,11 +10,11 @@ use Rattle.lists.specs.Runs.{runs}
 use Rattle.sheet.specs.Chain.{total, below-or}
 use Rattle.self_collision.specs.Pairs.{Pair, pair, allPairs}
 use Rattle.self_collision.specs.Skip.{pairs-each}
-use Rattle.objective_master.specs.Objective.{Objective, MatchEEPosiDoF, MatchEERotaDoF, EachJointLimits, MinimizeVelocity, MinimizeAcceleration, MinimizeJerk, MaximizeManipulability, SelfCollision, goalObjectives, limitObjective, motionObjectives, pairObjective, objectives}
-use Rattle.objective_master.specs.Standing.{map-at}
+use Rattle.objective_master.specs.Objective.{Objective, MatchEEPosiDoF, MatchEERotaDoF, EachJointLimits, MinimizeVelocity, MinimizeAcceleration, MinimizeJerk, MaximizeManipulability, SelfCollision, goalObjectives, limitObjective, motionObjectives, pairObjective, Pick, objectives}
+use Rattle.objective_master.specs.Cached.{map-at}
 
 module _ (Q : Objective → Type 0) where
-  abbrev Every : List Objective → Type 0
+  abbrev pub Every : List Objective → Type 0
   Every os = (i : ℕ) → i < length os → Q (getD os i MinimizeVelocity)
 
   every-append : (xs ys : List Objective) → Every xs → Every ys → Every (xs ++ ys)
@@ -32,7 +32,7 @@ module _ (Q : Objective → Type 0) where
   every-runs f zero each = λ i h. absurd (omega arith)
   every-runs f (suc n) each = every-append (runs f 0 n) (f (0 + n)) (every-runs f n (λ c h. each c (omega arith))) (each (0 + n) (omega arith))
 
-  every-goal : (c : ℕ) → ((a : ℕ) → Q (MatchEEPosiDoF c a)) → ((a : ℕ) → Q (MatchEERotaDoF c a)) → Every (goalObjectives c)
+  pub every-goal : (c : ℕ) → ((a : ℕ) → Q (MatchEEPosiDoF c a)) → ((a : ℕ) → Q (MatchEERotaDoF c a)) → Every (goalObjectives c)
   unfolding goalObjectives
   every-goal c p r zero h = p 0
   every-goal c p r (suc zero) h = p 1
@@ -55,22 +55,24 @@ module _ (Q : Objective → Type 0) where
   every-motion v a j m (suc (suc (suc zero))) h = m
   every-motion v a j m (suc (suc (suc (suc i)))) h = absurd (omega arith)
 
-  every-pair : (lens : List ℕ) → ((c j k : ℕ) → c < length lens → j + 2 ≤ k → k < getD lens c 0 → Q (SelfCollision 0 j k)) → Every (map pairObjective (allPairs lens))
+  every-pair : (arms : ℕ → ℕ) (lens : List ℕ) → ((c j k : ℕ) → c < length lens → j + 2 ≤ k → k < getD lens c 0 → Q (SelfCollision (arms c) j k))
+      → Every (map pairObjective (allPairs arms lens))
   unfolding pairObjective
-  every-pair lens pairs i h =
-      let l : i < length (allPairs lens) = omega (arith, length-map (allPairs lens) pairObjective) in
-      subst Q (sym (map-at pairObjective (allPairs lens) i (pair 0 0) MinimizeVelocity l)) (pairs-each (λ (p : Pair). Q (pairObjective p)) lens pairs i l)
+  every-pair arms lens pairs i h =
+      let ps : List Pair = allPairs arms lens in
+      let l : i < length ps = omega (arith, length-map ps pairObjective) in
+      subst Q (sym (map-at pairObjective ps i (pair 0 0 0) MinimizeVelocity l)) (pairs-each (λ (p : Pair). Q (pairObjective p)) arms lens pairs i l)
 
-  pub objectives-each : (lens : List ℕ)
-      → ((c a : ℕ) → c < length lens → Q (MatchEEPosiDoF c a)) → ((c a : ℕ) → c < length lens → Q (MatchEERotaDoF c a))
-      → ((j : ℕ) → j < total lens → Q (EachJointLimits j))
+  pub objectives-each : (pick : Pick) (lens : List ℕ)
+      → ((c : ℕ) → c < length lens → Every (pick .goals c)) → ((j : ℕ) → j < total lens → Q (EachJointLimits j))
       → Q MinimizeVelocity → Q MinimizeAcceleration → Q MinimizeJerk → Q MaximizeManipulability
-      → ((c j k : ℕ) → c < length lens → j + 2 ≤ k → k < getD lens c 0 → Q (SelfCollision 0 j k))
-      → (i : ℕ) → i < length (objectives lens) → Q (getD (objectives lens) i MinimizeVelocity)
+      → ((c j k : ℕ) → c < length lens → j + 2 ≤ k → k < getD lens c 0 → Q (SelfCollision (pick .arms c) j k))
+      → Every (objectives pick lens)
   unfolding objectives
-  objectives-each lens positions rotations limits velocity acceleration jerk manipulability pairs =
-      every-append (runs goalObjectives 0 (length lens)) (runs limitObjective 0 (total lens) ++ (motionObjectives ++ map pairObjective (allPairs lens)))
-      (every-runs goalObjectives (length lens) (λ c h. every-goal c (λ a. positions c a h) (λ a. rotations c a h)))
-      (every-append (runs limitObjective 0 (total lens)) (motionObjectives ++ map pairObjective (allPairs lens))
+  objectives-each pick lens goals limits velocity acceleration jerk manipulability pairs =
+      let last : List Objective = map pairObjective (allPairs (pick .arms) lens) in
+      every-append (runs (pick .goals) 0 (length lens)) (runs limitObjective 0 (total lens) ++ (motionObjectives ++ last))
+      (every-runs (pick .goals) (length lens) goals)
+      (every-append (runs limitObjective 0 (total lens)) (motionObjectives ++ last)
       (every-runs limitObjective (total lens) (λ j h. every-limit j (limits j h)))
-      (every-append motionObjectives (map pairObjective (allPairs lens)) (every-motion velocity acceleration jerk manipulability) (every-pair lens pairs)))
+      (every-append motionObjectives last (every-motion velocity acceleration jerk manipulability) (every-pair (pick .arms) lens pairs)))

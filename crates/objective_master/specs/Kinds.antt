@@ -7,14 +7,14 @@ use lib.ListN.{length, length-append, length-map}
 use Rattle.lists.specs.Splice.{splice, splice-splice}
 use Rattle.lists.specs.Runs.{runs, length-runs}
 use Rattle.sheet.specs.Chain.{total, joints}
-use Rattle.self_collision.specs.Pairs.{Pair, allPairs, chainLengths, lengths-count}
-use Rattle.objective_master.specs.Objective.{Objective, goalObjectives, motionObjectives, pairObjective, objectives, sections, count}
+use Rattle.self_collision.specs.Pairs.{Pair, allPairs, firstArm, chainLengths, lengths-count}
+use Rattle.objective_master.specs.Objective.{goalWidth, goalObjectives, motionObjectives, pairObjective, sourceList, objectives, sections, count}
 use Rattle.objective_master.specs.Weights.{kindNumber}
 use Rattle.objective_master.specs.Losses.{lengths-total}
 
 -- of a sheet
 abbrev pub kindsOf : List ℕ → List ℕ → List ℕ
-kindsOf ns cs = map kindNumber (objectives (chainLengths ns cs))
+kindsOf ns cs = map kindNumber (objectives sourceList (chainLengths ns cs))
 
 -- of a chain's goal, of all joints, and one kind alone
 unfoldable pub goalKinds : List ℕ
@@ -27,7 +27,7 @@ unfoldable pub onlyKind : ℕ → ℕ → List ℕ
 onlyKind k i = k ∷ []
 
 -- ---- laws
-pub goal-kinds : length goalKinds ≡ 6
+pub goal-kinds : length goalKinds ≡ goalWidth
 unfolding goalKinds
 goal-kinds = refl
 
@@ -39,8 +39,8 @@ pub one-kind : (k i : ℕ) → length (onlyKind k i) ≡ 1
 unfolding onlyKind
 one-kind k i = refl
 
-pub kinds-length : (ns cs : List ℕ) → length (kindsOf ns cs) ≡ length (objectives (chainLengths ns cs))
-kinds-length ns cs = length-map (objectives (chainLengths ns cs)) kindNumber
+pub kinds-length : (ns cs : List ℕ) → length (kindsOf ns cs) ≡ length (objectives sourceList (chainLengths ns cs))
+kinds-length ns cs = length-map (objectives sourceList (chainLengths ns cs)) kindNumber
 
 -- a kind for each pair
 pair-kinds : (ps : List Pair) → map (λ p. kindNumber (pairObjective p)) ps ≡ runs (onlyKind 7) 0 (length ps)
@@ -78,38 +78,38 @@ module _ (ns cs : List ℕ) (whole : total ns ≡ length cs) where
   abbrev limits : List ℕ
   limits = runs (onlyKind 2) 0 (joints cs)
 
-  pub kinds-count : length (objectives lens) ≡ 6 * length ns + joints cs + 4 + length (allPairs lens)
-  kinds-count = omega (arith, count lens, lengths-count ns cs, lengths-total ns cs whole)
+  pub kinds-count : length (objectives sourceList lens) ≡ goalWidth * length ns + joints cs + 4 + length (allPairs firstArm lens)
+  kinds-count = omega (arith, count sourceList lens, lengths-count ns cs, lengths-total ns cs whole)
 
-  kinds-are : kindsOf ns cs ≡ ((goals ++ limits) ++ motionKinds) ++ runs (onlyKind 7) 0 (length (allPairs lens))
+  kinds-are : kindsOf ns cs ≡ ((goals ++ limits) ++ motionKinds) ++ runs (onlyKind 7) 0 (length (allPairs firstArm lens))
   unfolding goalObjectives kindNumber goalKinds motionObjectives motionKinds onlyKind
   kinds-are =
-      let pairs : List ℕ = runs (onlyKind 7) 0 (length (allPairs lens)) in
+      let pairs : List ℕ = runs (onlyKind 7) 0 (length (allPairs firstArm lens)) in
       let by : ℕ → ℕ → List ℕ → List ℕ = λ c j r. runs (λ _. goalKinds) 0 c ++ (runs (onlyKind 2) 0 j ++ (motionKinds ++ r)) in
-      sections kindNumber lens
-      ∙ ap (by (length lens) (total lens)) (pair-kinds (allPairs lens))
+      sections kindNumber sourceList lens
+      ∙ ap (by (length lens) (total lens)) (pair-kinds (allPairs firstArm lens))
       ∙ ap (λ (c : ℕ). by c (total lens) pairs) (lengths-count ns cs)
       ∙ ap (λ (j : ℕ). by (length ns) j pairs) (lengths-total ns cs whole)
       ∙ sym (append-assoc (goals ++ limits) motionKinds pairs ∙ append-assoc goals limits (motionKinds ++ pairs))
 
-  goals-long : length goals ≡ 6 * length ns
-  goals-long = length-runs (λ _. goalKinds) 6 (λ _. goal-kinds) 0 (length ns) ∙ omega arith
+  goals-long : length goals ≡ goalWidth * length ns
+  goals-long = length-runs (λ _. goalKinds) goalWidth (λ _. goal-kinds) 0 (length ns) ∙ omega arith
 
-  limits-long : length (goals ++ limits) ≡ 6 * length ns + joints cs
+  limits-long : length (goals ++ limits) ≡ goalWidth * length ns + joints cs
   limits-long = length-append goals limits ∙ omega (arith, goals-long, length-runs (onlyKind 2) 1 (one-kind 2) 0 (joints cs))
 
-  motion-long : length ((goals ++ limits) ++ motionKinds) ≡ 6 * length ns + joints cs + 4
+  motion-long : length ((goals ++ limits) ++ motionKinds) ≡ goalWidth * length ns + joints cs + 4
   motion-long = length-append (goals ++ limits) motionKinds ∙ omega (arith, limits-long, motion-kinds)
 
   -- section after section, the whole list
-  pub kinds-made : (o₀ o₁ o₂ o₃ o₄ : List ℕ) (n k j : ℕ) → n ≡ length (objectives lens) → n ≤ length o₀ → j ≡ joints cs → k ≡ 6 * length ns
+  pub kinds-made : (o₀ o₁ o₂ o₃ o₄ : List ℕ) (n k j : ℕ) → n ≡ length (objectives sourceList lens) → n ≤ length o₀ → j ≡ joints cs → k ≡ goalWidth * length ns
       → o₁ ≡ splice o₀ 0 goals → o₂ ≡ splice o₁ k (runs (onlyKind 2) 0 j) → o₃ ≡ splice o₂ (k + j) motionKinds
       → o₄ ≡ splice o₃ (k + j + 4) (runs (onlyKind 7) 0 (n - (k + j + 4))) → o₄ ≡ splice o₀ 0 (kindsOf ns cs)
   kinds-made o₀ o₁ o₂ o₃ o₄ n k j en room ej ek e₁ e₂ e₃ e₄ =
-      let m : n - (k + j + 4) ≡ length (allPairs lens) = omega (arith, kinds-count) in
+      let m : n - (k + j + 4) ≡ length (allPairs firstArm lens) = omega (arith, kinds-count) in
       let f₂ : o₂ ≡ splice o₁ k limits = e₂ ∙ ap (λ (i : ℕ). splice o₁ k (runs (onlyKind 2) 0 i)) ej in
-      let f₄ : o₄ ≡ splice o₃ (k + j + 4) (runs (onlyKind 7) 0 (length (allPairs lens))) = e₄ ∙ ap (λ (i : ℕ). splice o₃ (k + j + 4) (runs (onlyKind 7) 0 i)) m in
+      let f₄ : o₄ ≡ splice o₃ (k + j + 4) (runs (onlyKind 7) 0 (length (allPairs firstArm lens))) = e₄ ∙ ap (λ (i : ℕ). splice o₃ (k + j + 4) (runs (onlyKind 7) 0 i)) m in
       let g₂ : o₂ ≡ splice o₀ 0 (goals ++ limits) = joined o₀ o₁ o₂ goals limits k e₁ f₂ (omega (arith, goals-long)) (omega (arith, goals-long, kinds-count)) in
       let g₃ : o₃ ≡ splice o₀ 0 ((goals ++ limits) ++ motionKinds) = joined o₀ o₂ o₃ (goals ++ limits) motionKinds (k + j) g₂ e₃ (omega (arith, limits-long)) (omega (arith, limits-long, kinds-count)) in
-      joined o₀ o₃ o₄ ((goals ++ limits) ++ motionKinds) (runs (onlyKind 7) 0 (length (allPairs lens))) (k + j + 4) g₃ f₄ (omega (arith, motion-long)) (omega (arith, motion-long, kinds-count))
+      joined o₀ o₃ o₄ ((goals ++ limits) ++ motionKinds) (runs (onlyKind 7) 0 (length (allPairs firstArm lens))) (k + j + 4) g₃ f₄ (omega (arith, motion-long)) (omega (arith, motion-long, kinds-count))
       ∙ ap (splice o₀ 0) (sym kinds-are)

@@ -1,7 +1,7 @@
 pub mod Objective
 pub mod Weights
 pub mod Losses
-pub mod Standing
+pub mod Cached
 pub mod Every
 pub mod Untouched
 pub mod Kinds

@@ -2,7 +2,7 @@
 use mathlib.Core.Path.{_≡_, refl, sym, ap, _∙_}
 use mathlib.Core.Bool.{cond}
 use mathlib.Core.List.{List, [], _∷_, _++_, map}
-use Prim.Native.Nat.{ℕ, zero, suc, _+_, _-_, _*_, _≤_}
+use Prim.Native.Nat.{ℕ, zero, suc, _+_, _-_, _*_}
 use native.Mathlib.Omega.{arith}
 use lib.Dec.{eqb}
 use lib.Ieee.{Float, nan}
@@ -15,15 +15,15 @@ use Rattle.geometry.specs.Vector.{subOf}
 use Rattle.geometry.specs.Quaternion.{inverseOf, productOf, rotateOf, scaledAxisOf}
 use Rattle.lists.specs.Runs.{runs}
 use Rattle.lists.specs.Listed.{listed}
-use Rattle.sheet.specs.Chain.{total, chainStart, chain-start-next, chain-start-total, jointOf, joint-mono, joint-last, joints}
-use Rattle.task.specs.Task.{taskLength, Given, givenOf}
+use Rattle.sheet.specs.Chain.{total, chainStart, chain-start-next, chain-start-total, jointOf, joint-mono, joint-last, joints, chainLength}
+use Rattle.task.specs.Task.{taskLength, Given}
 use Rattle.spacetime.specs.Floats.{vecAt, quatAt}
 use Rattle.spacetime.specs.Frames.{endOf, Chains}
 use Rattle.manipulability.specs.View.{View}
 use Rattle.manipulability.specs.Jacobian.{manipulabilityOf}
-use Rattle.groove.specs.Loss.{matchEEPosiDoF, matchEERotaDoF, eachJointLimits, minimizeVelocity, minimizeAcceleration, minimizeJerk, maximizeManipulability, velocityOf, accelerationOf, jerkOf, noNumber}
-use Rattle.self_collision.specs.Pairs.{pair, chainLength, chainLengths, pairLoss, pairLosses, Paired, lengths-count}
-use Rattle.objective_master.specs.Objective.{Objective, MatchEEPosiDoF, MatchEERotaDoF, EachJointLimits, MinimizeVelocity, MinimizeAcceleration, MinimizeJerk, MaximizeManipulability, SelfCollision, goalObjectives, motionObjectives, pairObjective, objectives, sections}
+use Rattle.groove.specs.Loss.{matchEEPosiDoF, matchEERotaDoF, eachJointLimits, minimizeVelocity, minimizeAcceleration, minimizeJerk, maximizeManipulability, velocityOf, accelerationOf, jerkOf, anyNan}
+use Rattle.self_collision.specs.Pairs.{pair, firstArm, chainLengths, pairLoss, pairLosses, Paired, lengths-count}
+use Rattle.objective_master.specs.Objective.{Objective, MatchEEPosiDoF, MatchEERotaDoF, EachJointLimits, MinimizeVelocity, MinimizeAcceleration, MinimizeJerk, MaximizeManipulability, SelfCollision, goalWidth, goalObjectives, motionObjectives, pairObjective, sourceList, objectives, sections}
 
 -- component a of a vector: x, y, z for 0, 1, 2
 unfoldable pub componentOf : Vec3 → ℕ → Float
@@ -60,18 +60,18 @@ limitLoss limits x j = eachJointLimits (getD x j nan) (getD limits (2 * j) nan) 
 
 -- what an objective costs
 unfoldable pub lossOf : Given → (ℕ → Pose) → List Float → Objective → Float
-lossOf g P x (MatchEEPosiDoF c a) = offLoss (g .goals) c (endOf (g .sizes) P c) a
-lossOf g P x (MatchEERotaDoF c a) = turnLoss (g .goals) c (endOf (g .sizes) P c) a
+lossOf g P x (MatchEEPosiDoF c a) = offLoss (g .goals) c (endOf (g .counts) P c) a
+lossOf g P x (MatchEERotaDoF c a) = turnLoss (g .goals) c (endOf (g .counts) P c) a
 lossOf g P x (EachJointLimits j) = limitLoss (g .limits) x j
 lossOf g P x MinimizeVelocity = minimizeVelocity (velocityOf x (g .xopt))
 lossOf g P x MinimizeAcceleration = minimizeAcceleration (accelerationOf x (g .xopt) (g .«prev_state»))
 lossOf g P x MinimizeJerk = minimizeJerk (jerkOf x (g .xopt) (g .«prev_state») (g .«prev_state2»))
-lossOf g P x MaximizeManipulability = maximizeManipulability (manipulabilityOf P (g .sizes) (g .codes))
-lossOf g P x (SelfCollision arm j k) = pairLoss (g .sizes) P arm (noNumber x) (pair j k)
+lossOf g P x MaximizeManipulability = maximizeManipulability (manipulabilityOf P (g .counts) (g .codes))
+lossOf g P x (SelfCollision arm j k) = pairLoss (g .counts) P (anyNan x) (pair arm j k)
 
 -- the objectives of a sheet
 abbrev pub objectivesOf : Given → List Objective
-objectivesOf g = objectives (chainLengths (g .sizes) (g .codes))
+objectivesOf g = objectives sourceList (chainLengths (g .counts) (g .codes))
 
 -- what they cost, in their order
 unfoldable pub lossesOf : Given → (ℕ → Pose) → List Float → List Float
@@ -79,7 +79,7 @@ lossesOf g P x = map (lossOf g P x) (objectivesOf g)
 
 -- ---- by sections, as code writes them
 
--- the six of a chain's goal
+-- those of a chain's goal
 unfoldable pub offLosses : List Float → ℕ → Pose → List Float
 offLosses goals c end = offLoss goals c end 0 ∷ offLoss goals c end 1 ∷ offLoss goals c end 2 ∷ []
 
@@ -117,7 +117,7 @@ pub losses-many : (g : Given) (P : ℕ → Pose) (x : List Float) → length (lo
 unfolding lossesOf
 losses-many g P x = length-map (objectivesOf g) (lossOf g P x)
 
-pub goal-length : (ns : List ℕ) (goals : List Float) (P : ℕ → Pose) (c : ℕ) → length (goalLosses ns goals P c) ≡ 6
+pub goal-length : (ns : List ℕ) (goals : List Float) (P : ℕ → Pose) (c : ℕ) → length (goalLosses ns goals P c) ≡ goalWidth
 unfolding goalLosses poseLosses offLosses turnLosses
 goal-length ns goals P c = refl
 
@@ -155,20 +155,20 @@ lengths-total ns cs w = lengths-to ns cs (length ns) ∙ ap (jointOf cs) (chain-
 
 module _ (g : Given) (P : ℕ → Pose) (x : List Float) where
   abbrev ns : List ℕ
-  ns = g .sizes
+  ns = g .counts
 
   abbrev lens : List ℕ
-  lens = chainLengths (g .sizes) (g .codes)
+  lens = chainLengths (g .counts) (g .codes)
 
   -- the list of losses by sections
-  pub losses-sections : total (g .sizes) ≡ length (g .codes) → length x ≡ joints (g .codes)
-      → lossesOf g P x ≡ runs (goalLosses (g .sizes) (g .goals) P) 0 (length (g .sizes))
+  pub losses-sections : total (g .counts) ≡ length (g .codes) → length x ≡ joints (g .codes)
+      → lossesOf g P x ≡ runs (goalLosses (g .counts) (g .goals) P) 0 (length (g .counts))
       ++ (runs (limitLosses (g .limits) x) 0 (length x)
-      ++ (motionLosses P (g .sizes) (g .codes) x (g .xopt) (g .«prev_state») (g .«prev_state2»)
-      ++ pairLosses (g .sizes) P (chainLengths (g .sizes) (g .codes)) (noNumber x)))
+      ++ (motionLosses P (g .counts) (g .codes) x (g .xopt) (g .«prev_state») (g .«prev_state2»)
+      ++ pairLosses (g .counts) P firstArm (chainLengths (g .counts) (g .codes)) (anyNan x)))
   unfolding lossesOf lossOf goalObjectives motionObjectives pairObjective goalLosses poseLosses offLosses turnLosses limitLosses changeLosses motionLosses pairLosses
   losses-sections w v =
-      let rest : List Float = motionLosses P ns (g .codes) x (g .xopt) (g .«prev_state») (g .«prev_state2») ++ pairLosses ns P lens (noNumber x) in
-      sections (lossOf g P x) lens
+      let rest : List Float = motionLosses P ns (g .codes) x (g .xopt) (g .«prev_state») (g .«prev_state2») ++ pairLosses ns P firstArm lens (anyNan x) in
+      sections (lossOf g P x) sourceList lens
       ∙ ap (λ (n : ℕ). runs (goalLosses ns (g .goals) P) 0 n ++ (runs (limitLosses (g .limits) x) 0 (total lens) ++ rest)) (lengths-count ns (g .codes))
       ∙ ap (λ (n : ℕ). runs (goalLosses ns (g .goals) P) 0 (length ns) ++ (runs (limitLosses (g .limits) x) 0 n ++ rest)) (lengths-total ns (g .codes) w ∙ sym v)

@@ -60,6 +60,10 @@ unfoldable pub weightedBy : List Float → List ℕ → List Float → Float
 weightedBy ws ks vs = sumTo (termAt ws ks vs) nought (length ks)
 
 -- ---- laws
+pub weights-eight : length weightPriors ≡ 8
+unfolding weightPriors
+weights-eight = refl
+
 pub sum-none : (ws : List Float) (ks : List ℕ) (vs : List Float) → nought ≡ sumTo (termAt ws ks vs) nought 0
 unfolding sumTo
 sum-none ws ks vs = refl

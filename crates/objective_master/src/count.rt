@@ -1,16 +1,17 @@
 // How many objectives `relaxed_ik` lists.
+use crate::relaxed_ik::GOAL_WIDTH;
 use sheet::chain;
 ghost use mathlib.Core.Path.{_≡_};
-ghost use Prim.Native.Nat.{_≤_};
+ghost use Prim.Native.Nat.{_-_, _≤_};
 ghost use lib.ListN.{length};
 ghost use Rattle.manipulability.specs.Jacobian.{Counted};
-ghost use Rattle.self_collision.specs.Pairs.{pairsOf, chainLengths};
-ghost use Rattle.objective_master.specs.Objective.{objectives};
+ghost use Rattle.self_collision.specs.Pairs.{chainLengths, triangle};
+ghost use Rattle.objective_master.specs.Objective.{sourceList, objectives};
 
 // The pairs that a chain of n joints adds.
 fn pair_count(n: usize) -> usize
     requires { ⌜ n ≤ 16 ⌝ }
-    ensures { λ r. ⌜ (r ≡ length (pairsOf n)) × (r ≤ 256) ⌝ }
+    ensures { λ r. ⌜ (r ≡ triangle (n - 2)) × (r ≤ 256) ⌝ }
 {
     let mut s: usize = 0;
     let mut j: usize = 0;
@@ -21,21 +22,21 @@ fn pair_count(n: usize) -> usize
     s
 }
 
-pub fn objective_count(sizes: &[u16], codes: &[u16]) -> usize
-    requires { ⌜ Counted (now sizes) (now codes) × (length (now sizes) ≤ 4) ⌝ }
-    ensures { λ r. ⌜ r ≡ length (objectives (chainLengths (now (sizes .entry)) (now (codes .entry)))) ⌝ }
+pub fn objective_count(counts: &[u16], codes: &[u16]) -> usize
+    requires { ⌜ Counted (now counts) (now codes) × (length (now counts) ≤ 4) ⌝ }
+    ensures { λ r. ⌜ r ≡ length (objectives sourceList (chainLengths (now (counts .entry)) (now (codes .entry)))) ⌝ }
 {
     let mut s: usize = 0;
     let mut l: usize = 0;
     let mut joint: usize = 0;
     let mut c = 0;
-    while c < sizes.len() {
-        let end = l + sizes[c] as usize;
+    while c < counts.len() {
+        let end = l + counts[c] as usize;
         let next = chain::joint_number(codes, end);
         s += pair_count(next - joint);
         l = end;
         joint = next;
         c += 1;
     }
-    6 * sizes.len() + joint + 4 + s
+    GOAL_WIDTH * counts.len() + joint + 4 + s
 }

@@ -1,4 +1,5 @@
 // objective.rs and `relaxed_ik`: what the objectives cost, in their order, of poses read through a view.
+use crate::relaxed_ik::GOAL_WIDTH;
 use geometry::pose::Pose;
 use geometry::quaternion;
 use geometry::vector;
@@ -19,10 +20,11 @@ ghost use Rattle.sheet.specs.Chain.{total};
 ghost use Rattle.task.specs.Task.{taskLength, xoptOf, prevStateOf, prevState2Of, givenOf, givenIn};
 ghost use Rattle.spacetime.specs.Floats.{flatVec};
 ghost use Rattle.spacetime.specs.Frames.{Chains};
-ghost use Rattle.manipulability.specs.View.{viewOf, View};
+ghost use Rattle.manipulability.specs.View.{viewOf, View, walkedAgain};
 ghost use Rattle.manipulability.specs.Jacobian.{Counted};
+ghost use Rattle.objective_master.specs.Objective.{goalWidth};
 ghost use Rattle.objective_master.specs.Losses.{toleranceAt, offGoal, turnFromGoal, offLosses, turnLosses, poseLosses, goalLosses, limitLosses, changeLosses, motionLosses, lossesOf, Lent};
-ghost use Rattle.objective_master.specs.Standing.{walkedAgain, endAgain, isRaised, Kept, Stands, Standing};
+ghost use Rattle.objective_master.specs.Cached.{endAgain, isRaised, CachedPiece, CachedPieces, Cached};
 
 // What was walked again: the links from..to, with `joint` raised. All links are new in a first walk, and so are all joints (65535).
 pub struct Walked {
@@ -84,8 +86,8 @@ fn turn_losses(goals: &[f64], c: usize, end: Pose) -> Vec3
     }
 }
 
-fn put_six(goals: &[f64], c: usize, end: Pose, at: usize, out: &mut [f64])
-    requires { ⌜ (13 * c + 13 ≤ length (now goals)) × (at + 6 ≤ length (now out)) ⌝ }
+fn put_pose_losses(goals: &[f64], c: usize, end: Pose, at: usize, out: &mut [f64])
+    requires { ⌜ (13 * c + 13 ≤ length (now goals)) × (at + goalWidth ≤ length (now out)) ⌝ }
     ensures { λ _. ⌜ now (out .exit) ≡ splice (now (out .entry)) at (poseLosses (now (goals .entry)) c end) ⌝ }
 {
     let offs = off_losses(goals, c, end);
@@ -94,16 +96,7 @@ fn put_six(goals: &[f64], c: usize, end: Pose, at: usize, out: &mut [f64])
     floats::put_vec(out, at + 3, turns);
 }
 
-fn walked_again(from: usize, to: usize, link: usize) -> bool
-    ensures { λ r. ⌜ r ≡ walkedAgain from to link ⌝ }
-{
-    if link < from {
-        return false;
-    }
-    link < to
-}
-
-// Chain c's goal. If its last link was not walked again, the six losses stand already.
+// Chain c's goal. If its last link was not walked again, its losses stand already.
 fn put_goal(
     goals: &[f64],
     base: &[f64],
@@ -114,23 +107,23 @@ fn put_goal(
     c: usize,
     out: &mut [f64],
 )
-    requires { ⌜ (13 * c + 13 ≤ length (now goals)) × (6 * c + 6 ≤ length (now out)) ⌝ }
+    requires { ⌜ (13 * c + 13 ≤ length (now goals)) × (goalWidth * c + goalWidth ≤ length (now out)) ⌝ }
     requires { ⌜ View (now base) (now tail) from to (link + 1) ⌝ }
-    requires { ⌜ Kept (walkedAgain from to link) (6 * c)
+    requires { ⌜ CachedPiece (walkedAgain from to link) (goalWidth * c)
         (poseLosses (now goals) c (viewOf (now base) (now tail) from to link)) (now out) ⌝ }
-    ensures { λ _. ⌜ now (out .exit) ≡ splice (now (out .entry)) (6 * c)
+    ensures { λ _. ⌜ now (out .exit) ≡ splice (now (out .entry)) (goalWidth * c)
         (poseLosses (now (goals .entry)) c (viewOf (now (base .entry)) (now (tail .entry)) from to link)) ⌝ }
 {
-    if walked_again(from, to, link) {
+    if view::walked_again(from, to, link) {
         let end = view::pose(base, tail, from, to, link);
-        put_six(goals, c, end, 6 * c, out);
+        put_pose_losses(goals, c, end, GOAL_WIDTH * c, out);
         return;
     }
 }
 
 // The goals of all chains, from the front on.
 fn put_goals(
-    sizes: &[u16],
+    counts: &[u16],
     goals: &[f64],
     base: &[f64],
     tail: &[f64],
@@ -138,17 +131,17 @@ fn put_goals(
     to: usize,
     out: &mut [f64],
 )
-    requires { ⌜ Chains (now sizes) × (13 * length (now sizes) ≤ length (now goals)) ⌝ }
-    requires { ⌜ View (now base) (now tail) from to (total (now sizes)) ⌝ }
-    requires { ⌜ Stands (goalLosses (now sizes) (now goals) (viewOf (now base) (now tail) from to)) 6
-        (endAgain (now sizes) from to) 0 (length (now sizes)) (now out) ⌝ }
+    requires { ⌜ Chains (now counts) × (13 * length (now counts) ≤ length (now goals)) ⌝ }
+    requires { ⌜ View (now base) (now tail) from to (total (now counts)) ⌝ }
+    requires { ⌜ CachedPieces (goalLosses (now counts) (now goals) (viewOf (now base) (now tail) from to)) goalWidth
+        (endAgain (now counts) from to) 0 (length (now counts)) (now out) ⌝ }
     ensures { λ _. ⌜ now (out .exit) ≡ splice (now (out .entry)) 0
-        (runs (goalLosses (now (sizes .entry)) (now (goals .entry)) (viewOf (now (base .entry)) (now (tail .entry)) from to)) 0 (length (now (sizes .entry)))) ⌝ }
+        (runs (goalLosses (now (counts .entry)) (now (goals .entry)) (viewOf (now (base .entry)) (now (tail .entry)) from to)) 0 (length (now (counts .entry)))) ⌝ }
 {
     let mut l: usize = 0;
     let mut c = 0;
-    while c < sizes.len() {
-        let end = l + sizes[c] as usize;
+    while c < counts.len() {
+        let end = l + counts[c] as usize;
         put_goal(goals, base, tail, from, to, end - 1, c, out);
         l = end;
         c += 1;
@@ -167,7 +160,7 @@ fn is_raised(joint: usize, j: usize) -> bool
 // Joint j's limits. If another joint was raised, the loss stands already.
 fn put_limit(limits: &[f64], x: &[f64], joint: usize, j: usize, at: usize, out: &mut [f64])
     requires { ⌜ (j < length (now x)) × (2 * j + 2 ≤ length (now limits)) × (at < length (now out)) ⌝ }
-    requires { ⌜ Kept (isRaised joint j) at (limitLosses (now limits) (now x) j) (now out) ⌝ }
+    requires { ⌜ CachedPiece (isRaised joint j) at (limitLosses (now limits) (now x) j) (now out) ⌝ }
     ensures { λ _. ⌜ now (out .exit) ≡ splice (now (out .entry)) at (limitLosses (now (limits .entry)) (now (x .entry)) j) ⌝ }
 {
     if is_raised(joint, j) {
@@ -178,7 +171,7 @@ fn put_limit(limits: &[f64], x: &[f64], joint: usize, j: usize, at: usize, out: 
 
 fn put_limits(limits: &[f64], x: &[f64], joint: usize, at: usize, out: &mut [f64])
     requires { ⌜ 2 * length (now x) ≤ length (now limits) ⌝ }
-    requires { ⌜ Stands (limitLosses (now limits) (now x)) 1 (isRaised joint) at (length (now x)) (now out) ⌝ }
+    requires { ⌜ CachedPieces (limitLosses (now limits) (now x)) 1 (isRaised joint) at (length (now x)) (now out) ⌝ }
     ensures { λ _. ⌜ now (out .exit) ≡ splice (now (out .entry)) at
         (runs (limitLosses (now (limits .entry)) (now (x .entry))) 0 (length (now (x .entry)))) ⌝ }
 {
@@ -209,7 +202,7 @@ fn put_changes(task: &[f64], x: &[f64], at: usize, out: &mut [f64])
 
 // The four of all joints.
 fn put_motion(
-    sizes: &[u16],
+    counts: &[u16],
     codes: &[u16],
     task: &[f64],
     x: &[f64],
@@ -220,12 +213,12 @@ fn put_motion(
     out: &mut [f64],
 )
     requires { ⌜ (length (now task) ≡ taskLength) × (length (now x) ≤ 16) × (at + 4 ≤ length (now out)) ⌝ }
-    requires { ⌜ Counted (now sizes) (now codes) × View (now base) (now tail) (walked .from) (walked .to) (length (now codes)) ⌝ }
+    requires { ⌜ Counted (now counts) (now codes) × View (now base) (now tail) (walked .from) (walked .to) (length (now codes)) ⌝ }
     ensures { λ _. ⌜ now (out .exit) ≡ splice (now (out .entry)) at
-        (motionLosses (viewOf (now (base .entry)) (now (tail .entry)) (walked .from) (walked .to)) (now (sizes .entry)) (now (codes .entry)) (now (x .entry))
+        (motionLosses (viewOf (now (base .entry)) (now (tail .entry)) (walked .from) (walked .to)) (now (counts .entry)) (now (codes .entry)) (now (x .entry))
         (xoptOf (length (now (x .entry))) (now (task .entry))) (prevStateOf (length (now (x .entry))) (now (task .entry))) (prevState2Of (length (now (x .entry))) (now (task .entry)))) ⌝ }
 {
-    let m = robot::get_manipulability_immutable(sizes, codes, base, tail, walked.from, walked.to);
+    let m = robot::get_manipulability_immutable(counts, codes, base, tail, walked.from, walked.to);
     put_changes(task, x, at, out);
     out[at + 3] = objective::maximize_manipulability(m);
 }
@@ -233,7 +226,7 @@ fn put_motion(
 // The losses of all objectives, from the front of `out` on: those of objectives that read no link walked again and no joint raised
 // stand in `out` already, and are left there.
 pub fn put_losses(
-    sizes: &[u16],
+    counts: &[u16],
     codes: &[u16],
     task: &[f64],
     x: &[f64],
@@ -242,28 +235,28 @@ pub fn put_losses(
     walked: Walked,
     out: &mut [f64],
 )
-    requires { ⌜ Lent (now sizes) (now codes) (now task) (now x) (now base) (now tail) (walked .from) (walked .to) ⌝ }
-    requires { ⌜ Standing (givenOf (now sizes) (now codes) (now task)) (viewOf (now base) (now tail) (walked .from) (walked .to))
+    requires { ⌜ Lent (now counts) (now codes) (now task) (now x) (now base) (now tail) (walked .from) (walked .to) ⌝ }
+    requires { ⌜ Cached (givenOf (now counts) (now codes) (now task)) (viewOf (now base) (now tail) (walked .from) (walked .to))
         (now x) (walked .from) (walked .to) (walked .joint) (now out) ⌝ }
     ensures { λ _. ⌜ now (out .exit) ≡ splice (now (out .entry)) 0
-        (lossesOf (givenIn sizes codes task) (viewOf (now (base .entry)) (now (tail .entry)) (walked .from) (walked .to)) (now (x .entry))) ⌝ }
+        (lossesOf (givenIn counts codes task) (viewOf (now (base .entry)) (now (tail .entry)) (walked .from) (walked .to)) (now (x .entry))) ⌝ }
 {
-    let goals = parts::goals(task, sizes.len());
-    put_goals(sizes, goals, base, tail, walked.from, walked.to, out);
-    let n = 6 * sizes.len();
+    let goals = parts::goals(task, counts.len());
+    put_goals(counts, goals, base, tail, walked.from, walked.to, out);
+    let n = GOAL_WIDTH * counts.len();
     let limits = parts::limits(task, x.len());
     put_limits(limits, x, walked.joint, n, out);
     let m = n + x.len();
-    put_motion(sizes, codes, task, x, base, tail, walked, m, out);
-    let no_number = objective::no_number(x);
+    put_motion(counts, codes, task, x, base, tail, walked, m, out);
+    let any_nan = objective::any_nan(x);
     pairs::put_pairs(
-        sizes,
+        counts,
         codes,
         base,
         tail,
         walked.from,
         walked.to,
-        no_number,
+        any_nan,
         m + 4,
         out,
     );

@@ -8,11 +8,14 @@ ghost use Rattle.lists.specs.Splice.{splice};
 ghost use Rattle.lists.specs.Runs.{runs};
 ghost use Rattle.manipulability.specs.Jacobian.{Counted};
 ghost use Rattle.self_collision.specs.Pairs.{chainLengths};
-ghost use Rattle.objective_master.specs.Objective.{objectives};
+ghost use Rattle.objective_master.specs.Objective.{goalWidth, sourceList, objectives};
 ghost use Rattle.objective_master.specs.Kinds.{goalKinds, motionKinds, onlyKind, kindsOf};
 
+// How many objectives a chain's goal has.
+pub const GOAL_WIDTH: usize = 6;
+
 // Of a chain's goal: three positions, three rotations.
-const GOAL_KINDS: [u16; 6] = [0, 0, 0, 1, 1, 1];
+const GOAL_KINDS: [u16; GOAL_WIDTH] = [0, 0, 0, 1, 1, 1];
 
 // Of all joints: velocity, acceleration, jerk, manipulability.
 const MOTION_KINDS: [u16; 4] = [3, 4, 5, 6];
@@ -30,7 +33,7 @@ fn put_kind(kind: u16, n: usize, at: usize, kinds: &mut [u16])
 }
 
 fn put_goal(at: usize, kinds: &mut [u16])
-    requires { ⌜ at + 6 ≤ length (now kinds) ⌝ }
+    requires { ⌜ at + goalWidth ≤ length (now kinds) ⌝ }
     ensures { λ _. ⌜ now (kinds .exit) ≡ splice (now (kinds .entry)) at goalKinds ⌝ }
 {
     lists::copy_numbers(&GOAL_KINDS, &mut kinds[at..]);
@@ -38,12 +41,12 @@ fn put_goal(at: usize, kinds: &mut [u16])
 
 // The goals of all chains.
 fn put_goals(chains: usize, kinds: &mut [u16])
-    requires { ⌜ 6 * chains ≤ length (now kinds) ⌝ }
+    requires { ⌜ goalWidth * chains ≤ length (now kinds) ⌝ }
     ensures { λ _. ⌜ now (kinds .exit) ≡ splice (now (kinds .entry)) 0 (runs (λ _. goalKinds) 0 chains) ⌝ }
 {
     let mut c: usize = 0;
     while c < chains {
-        put_goal(6 * c, kinds);
+        put_goal(GOAL_WIDTH * c, kinds);
         c += 1;
     }
 }
@@ -56,18 +59,18 @@ fn put_motion(at: usize, kinds: &mut [u16])
 }
 
 // Writes the list to the front of `kinds`, and answers its length.
-pub fn relaxed_ik(sizes: &[u16], codes: &[u16], kinds: &mut [u16]) -> usize
-    requires { ⌜ Counted (now sizes) (now codes) × (length (now sizes) ≤ 4) ⌝ }
-    requires { ⌜ length (objectives (chainLengths (now sizes) (now codes))) ≤ length (now kinds) ⌝ }
-    ensures { λ r. ⌜ r ≡ length (objectives (chainLengths (now (sizes .entry)) (now (codes .entry)))) ⌝ }
-    ensures { λ _. ⌜ now (kinds .exit) ≡ splice (now (kinds .entry)) 0 (kindsOf (now (sizes .entry)) (now (codes .entry))) ⌝ }
+pub fn relaxed_ik(counts: &[u16], codes: &[u16], kinds: &mut [u16]) -> usize
+    requires { ⌜ Counted (now counts) (now codes) × (length (now counts) ≤ 4) ⌝ }
+    requires { ⌜ length (objectives sourceList (chainLengths (now counts) (now codes))) ≤ length (now kinds) ⌝ }
+    ensures { λ r. ⌜ r ≡ length (objectives sourceList (chainLengths (now (counts .entry)) (now (codes .entry)))) ⌝ }
+    ensures { λ _. ⌜ now (kinds .exit) ≡ splice (now (kinds .entry)) 0 (kindsOf (now (counts .entry)) (now (codes .entry))) ⌝ }
 {
-    let n = count::objective_count(sizes, codes);
+    let n = count::objective_count(counts, codes);
     let joints = chain::joint_number(codes, codes.len());
-    let limits = 6 * sizes.len();
+    let limits = GOAL_WIDTH * counts.len();
     let motion = limits + joints;
     let pairs = motion + 4;
-    put_goals(sizes.len(), kinds);
+    put_goals(counts.len(), kinds);
     put_kind(2, joints, limits, kinds);
     put_motion(motion, kinds);
     put_kind(7, n - pairs, pairs, kinds);

@@ -22,7 +22,7 @@ use Rattle.gradient.specs.Slopes.{step}
 use Rattle.gradient.specs.Gradient.{raisedBy}
 use Rattle.one_block.specs.declared.walk.Place.{Place}
 use Rattle.one_block.specs.declared.grad.Turn.{Turn}
-use Rattle.one_block.specs.Record.{copyOf, againOf, recordOf, jointEntry, linkEntry, poseEntry, recordJoints, recordLinks, recordPoses, againAt, againBelow, entriesOf, placeAfter, placeAfterAll, placeAfterTurn, Meets, Stands}
+use Rattle.one_block.specs.Record.{copyOf, againOf, recordOf, jointEntry, linkEntry, poseEntry, recordJoints, recordLinks, recordPoses, againAt, againBelow, entriesOf, placeAfter, placeAfterAll, placeAfterTurn, Meets, AtTurn}
 
 -- ---- copies
 
@@ -126,7 +126,7 @@ pose-first ns cs gs x frames l h e =
 
 -- a turn of the loop over what is walked again
 module _ (ns cs : List ℕ) (gs x : List Float) (t : Turn) (q : Place) where
-  pub turn-is : (frames : List Float) → Stands ns cs gs x t frames
+  pub turn-is : (frames : List Float) → AtTurn ns cs gs x t frames
       → q .at ≡ t .here .at + againAt ns cs (t .link) → q .joint ≡ t .here .joint + jointsOf (getD cs (t .link) 0) → q .pose ≡ poseAt frames (7 * t .link) → q ≡ placeAfterTurn ns cs gs x t
   unfolding placeAfterTurn
   turn-is frames s a j e = rw (← a, ← j, ← (e ∙ pose-first ns cs gs x frames (t .link) (s .inside) (s .walked)))

@@ -13,7 +13,7 @@ use lib.ListN.{length, getD, set, length-set}
 use lib.Seq.{getD-set-same, getD-set-other}
 use Rattle.standins.specs.Num.{_⊕_}
 use Rattle.sheet.specs.Chain.{below-or}
-use Rattle.groove.specs.Loss.{noNumberTo, noNumber}
+use Rattle.groove.specs.Loss.{anyNanTo, anyNan}
 use Rattle.gradient.specs.Slopes.{step}
 use Rattle.gradient.specs.Gradient.{raisedBy}
 
@@ -70,21 +70,21 @@ raised-number : (v : Float) → ne v v ≡ ne (v ⊕ step) (v ⊕ step)
 raised-number v = ne-self v ∙ sym (add-number v false 0x35af_e535_795e9 72) ∙ ap (λ (h : Float). isNan (v ⊕ h)) (sym step-is) ∙ sym (ne-self (v ⊕ step))
 
 -- ---- of a block
-numbers-same : (x y : List Float) (n : ℕ) → ((i : ℕ) → i < n → ne (getD x i nan) (getD x i nan) ≡ ne (getD y i nan) (getD y i nan)) → noNumberTo x n ≡ noNumberTo y n
-unfolding noNumberTo
+numbers-same : (x y : List Float) (n : ℕ) → ((i : ℕ) → i < n → ne (getD x i nan) (getD x i nan) ≡ ne (getD y i nan) (getD y i nan)) → anyNanTo x n ≡ anyNanTo y n
+unfolding anyNanTo
 numbers-same x y zero same = refl
 numbers-same x y (suc n) same =
-    let e : noNumberTo x n ≡ noNumberTo y n = numbers-same x y n (λ i h. same i (omega arith)) in
+    let e : anyNanTo x n ≡ anyNanTo y n = numbers-same x y n (λ i h. same i (omega arith)) in
     let l = same n (omega arith) in
     rw (e, l)
 
-pub numbers-raised : (x : List Float) (j : ℕ) → j < length x → noNumber x ≡ noNumber (raisedBy step x j)
-unfolding noNumber raisedBy
+pub numbers-raised : (x : List Float) (j : ℕ) → j < length x → anyNan x ≡ anyNan (raisedBy step x j)
+unfolding anyNan raisedBy
 numbers-raised x j h =
     let v : Float = getD x j nan ⊕ step in
     let y : List Float = set x j v in
     numbers-same x y (length x) (λ i l. ⊎-elim (λ (b : i < j). other i (λ e. omega arith)) (λ (b : j ≤ i). ⊎-elim (λ (c : j < i). other i (λ e. omega arith)) (λ (c : i ≤ j). let e : i ≡ j = omega arith in rw e own) (below-or j i)) (below-or i j))
-    ∙ ap (noNumberTo y) (sym (length-set x j v))
+    ∙ ap (anyNanTo y) (sym (length-set x j v))
   where
     own : ne (getD x j nan) (getD x j nan) ≡ ne (getD (set x j (getD x j nan ⊕ step)) j nan) (getD (set x j (getD x j nan ⊕ step)) j nan)
     own = raised-number (getD x j nan) ∙ ap (λ (w : Float). ne w w) (sym (getD-set-same x j (getD x j nan ⊕ step) nan h))

@@ -10,7 +10,7 @@ use lib.ListN.{getD, length, take}
 use Rattle.lists.specs.Splice.{splice}
 use Rattle.lists.specs.Runs.{runs}
 use Rattle.sheet.specs.Chain.{endIn, jointsOf, jointOf}
-use Rattle.task.specs.Task.{LentList, lent}
+use Rattle.lists.specs.Lent.{lent, LentList}
 use Rattle.spacetime.specs.Floats.{flat}
 use Rattle.spacetime.specs.Walk.{startOf, afterLink, beforeOf, poseOf, framesOf}
 use Rattle.gradient.specs.Slopes.{step}
@@ -119,7 +119,7 @@ pub record Room (joints links : List ℕ) (frames : List Float) (n : ℕ) : Type
   pub frames-room : 7 * n ≤ length frames
 
 -- a turn of that loop, with the first walk in front of the record
-pub record Stands (ns cs : List ℕ) (gs x : List Float) (t : Turn) (frames : List Float) : Type 0 where
+pub record AtTurn (ns cs : List ℕ) (gs x : List Float) (t : Turn) (frames : List Float) : Type 0 where
   pub inside : t .link < length cs
   pub meets : Meets ns cs gs x (t .link) (t .here)
   pub next : t .here .at ≡ length cs + againBelow ns cs (t .link)

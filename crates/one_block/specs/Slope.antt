@@ -19,14 +19,14 @@ use Rattle.sheet.specs.Chain.{endIn, total, jointOf, joints-fixed, joints-one, 
 use Rattle.task.specs.Task.{Given, givenOf}
 use Rattle.spacetime.specs.Floats.{poseAt, flat, pose-is}
 use Rattle.spacetime.specs.Walk.{poseOf, poses, poses-length, framesOf, listPose}
-use Rattle.manipulability.specs.View.{viewOf}
-use Rattle.groove.specs.Loss.{noNumber}
+use Rattle.manipulability.specs.View.{viewOf, walkedAgain}
+use Rattle.groove.specs.Loss.{anyNan}
 use Rattle.objective_master.specs.Objective.{Objective}
 use Rattle.objective_master.specs.Losses.{lossesOf, objectivesOf, losses-many}
 use Rattle.objective_master.specs.Weights.{weightedBy}
 use Rattle.objective_master.specs.Kinds.{kindsOf, kinds-length}
-use Rattle.objective_master.specs.Standing.{walkedAgain, isRaised, touched, Standing}
-use Rattle.objective_master.specs.Untouched.{standing-again, losses-ext}
+use Rattle.objective_master.specs.Cached.{isRaised, touched, Cached}
+use Rattle.objective_master.specs.Untouched.{cached-again, losses-ext}
 use Rattle.gradient.specs.Slopes.{step, slopeBetween}
 use Rattle.gradient.specs.Gradient.{raisedBy, posesOf, lossesAt, gradientAt, slopeAt, slopesOf, gradientOf}
 use Rattle.gradient.specs.Ready.{Ready}
@@ -37,14 +37,14 @@ use Rattle.one_block.specs.Numbers.{numbers-raised}
 
 -- the weighted slope from the losses fs to those of poses P and joints y
 unfoldable pub slopeTo : Given → List Float → (ℕ → Pose) → List Float → Float
-slopeTo g fs P y = let ks : List ℕ = kindsOf (g .sizes) (g .codes) in weightedBy (g .weights) ks (listed (slopeBetween fs (lossesOf g P y)) (length ks))
+slopeTo g fs P y = let ks : List ℕ = kindsOf (g .counts) (g .codes) in weightedBy (g .weights) ks (listed (slopeBetween fs (lossesOf g P y)) (length ks))
 
 -- link l's turn in the list of slopes: its joint's entry is set, if it has a joint
 unfoldable pub slopesAfter : Given → List Float → List Float → ℕ → List Float → List Float
 slopesAfter g gs x l slopes = cond (eqb (getD (g .codes) l 0) 0) slopes (set slopes (jointOf (g .codes) l) (gradientAt g gs x (jointOf (g .codes) l)))
 
 -- the objectives' kinds ks, the losses of block x in front of fs, and room for the slopes
-pub record Known (ns cs : List ℕ) (task gs x : List Float) (ks : List ℕ) (fs slopes : List Float) : Type 0 where
+pub record Basis (ns cs : List ℕ) (task gs x : List Float) (ks : List ℕ) (fs slopes : List Float) : Type 0 where
   pub kinds : ks ≡ kindsOf ns cs
   pub losses : take (length ks) fs ≡ lossesAt (givenOf ns cs task) gs x
   pub losses-room : length ks ≤ length fs
@@ -65,7 +65,7 @@ unfolding viewOf walkedAgain listPose
 view-outside base tail from to l q = rw q
 
 view-again : (base tail : List Float) (from to l : ℕ) → from ≤ l → l < to → viewOf base tail from to l ≡ poseAt tail (7 * (l - from))
-unfolding viewOf
+unfolding viewOf walkedAgain
 view-again base tail from to l a b = rw (le-leb from l a, lt-ltb l to b)
 
 -- the poses from link k on, read from the part of the record that holds them
@@ -89,35 +89,35 @@ tail-pose ns cs gs y record₀ frames a k n l e room h b =
 front-at : (rest ys : List Float) (i : ℕ) → i < length ys → getD (splice rest 0 ys) i nan ≡ getD ys i nan
 front-at rest ys i h = let z : 0 + i ≡ i = omega arith in rw z at (getD-splice-in rest 0 ys i nan (omega arith) h)
 
-pub standing-front : (g : Given) (P : ℕ → Pose) (y : List Float) (from to joint n : ℕ) (fs hs cur : List Float) → Standing g P y from to joint fs → n ≡ length (objectivesOf g)
-    → n ≤ length fs → n ≤ length hs → cur ≡ splice hs 0 (take n fs) → Standing g P y from to joint cur
-standing-front g P y from to joint n fs hs cur s e h k made =
+pub cached-front : (g : Given) (P : ℕ → Pose) (y : List Float) (from to joint n : ℕ) (fs hs cur : List Float) → Cached g P y from to joint fs → n ≡ length (objectivesOf g)
+    → n ≤ length fs → n ≤ length hs → cur ≡ splice hs 0 (take n fs) → Cached g P y from to joint cur
+cached-front g P y from to joint n fs hs cur s e h k made =
     let t : length (take n fs) ≡ n = length-take-le n fs h in
-    let T : Objective → Bool = touched (g .sizes) from to joint in
+    let T : Objective → Bool = touched (g .counts) from to joint in
     record {
       room = omega (arith, ap length made, length-splice hs 0 (take n fs) (omega arith));
-      stands = λ i q.
+      cached = λ i q.
           ⊎-elim
-          (λ (l : i < n). ap (λ (c : List Float). getD c i nan) made ∙ front-at hs (take n fs) i (omega arith) ∙ getD-take n fs i nan l ∙ s .stands i q)
+          (λ (l : i < n). ap (λ (c : List Float). getD c i nan) made ∙ front-at hs (take n fs) i (omega arith) ∙ getD-take n fs i nan l ∙ s .cached i q)
           (λ (l : n ≤ i). absurd (true≢false (sym (List·getD-eq-default (map T (objectivesOf g)) true (omega (arith, length-map (objectivesOf g) T))) ∙ q)))
           (below-or i n);
     }
 
 -- ---- the slope as code makes it
-pub slope-made : (g : Given) (P : ℕ → Pose) (y fs rest hs ws : List Float) (ks : List ℕ) → ws ≡ g .weights → ks ≡ kindsOf (g .sizes) (g .codes) → hs ≡ splice rest 0 (lossesOf g P y)
+pub slope-made : (g : Given) (P : ℕ → Pose) (y fs rest hs ws : List Float) (ks : List ℕ) → ws ≡ g .weights → ks ≡ kindsOf (g .counts) (g .codes) → hs ≡ splice rest 0 (lossesOf g P y)
     → weightedBy ws ks (listed (slopeBetween fs hs) (length ks)) ≡ slopeTo g fs P y
 unfolding slopeTo listed slopeBetween
 slope-made g P y fs rest hs ws ks weights kinds made =
     let ls : List Float = lossesOf g P y in
     let len : length ls ≡ length (objectivesOf g) = losses-many g P y in
-    let n : length ks ≡ length (objectivesOf g) = ap length kinds ∙ kinds-length (g .sizes) (g .codes) in
+    let n : length ks ≡ length (objectivesOf g) = ap length kinds ∙ kinds-length (g .counts) (g .codes) in
     ap (weightedBy ws ks)
     (runs-ext (λ i. slopeBetween fs hs i ∷ []) (λ i. slopeBetween fs ls i ∷ []) 0 (length ks)
     (λ i h.
     let z : 0 + i ≡ i = omega arith in
     rw z (ap (λ (v : Float). ((neg (getD fs i nan) ⊕ v) ⊘ step) ∷ []) (ap (λ (c : List Float). getD c i nan) made ∙ front-at rest ls i (omega arith)))))
     ∙ ap (λ (k : List ℕ). weightedBy ws k (listed (slopeBetween fs ls) (length k))) kinds
-    ∙ ap (λ (w : List Float). weightedBy w (kindsOf (g .sizes) (g .codes)) (listed (slopeBetween fs ls) (length (kindsOf (g .sizes) (g .codes))))) weights
+    ∙ ap (λ (w : List Float). weightedBy w (kindsOf (g .counts) (g .codes)) (listed (slopeBetween fs ls) (length (kindsOf (g .counts) (g .codes))))) weights
 
 -- ---- a turn in the list of slopes
 module _ (g : Given) (gs x : List Float) where
@@ -211,17 +211,17 @@ module _ (ns cs : List ℕ) (task gs x : List Float) (ready : Ready ns cs task g
       either true = refl
       either false = refl
 
-  module _ (ks : List ℕ) (fs slopes : List Float) (known : Known ns cs task gs x ks fs slopes) where
+  module _ (ks : List ℕ) (fs slopes : List Float) (known : Basis ns cs task gs x ks fs slopes) where
     many : length ks ≡ length (objectivesOf G)
     unfolding givenOf
     many = ap length (known .kinds) ∙ kinds-length ns cs
 
     -- the first walk's losses stand where the copy touches nothing
-    pub standing-copy : Standing G seen y k end j fs
+    pub cached-copy : Cached G seen y k end j fs
     unfolding lossesAt givenOf
-    standing-copy =
-        standing-again G (listPose frames) seen x y k end j (λ l q. sym (view-outside frames (drop a frames) k end l q)) values
-        (numbers-raised x j (joint-in-block ns cs gs x (ready .sheet) k inside turns) ∙ ap noNumber (sym raised))
+    cached-copy =
+        cached-again G (listPose frames) seen x y k end j (λ l q. sym (view-outside frames (drop a frames) k end l q)) values
+        (numbers-raised x j (joint-in-block ns cs gs x (ready .sheet) k inside turns) ∙ ap anyNan (sym raised))
         fs (omega (arith, many, known .losses-room))
         (λ i l.
         sym (getD-take (length ks) fs i nan (omega (arith, many))) ∙ ap (λ (z : List Float). getD z i nan)
@@ -237,8 +237,8 @@ module _ (ns cs : List ℕ) (task gs x : List Float) (ready : Ready ns cs task g
 
     -- the same, of a block, an end and a joint number that are known to be these
     module _ (block : List Float) (to : ℕ) (is : block ≡ y) (ends : to ≡ end) where
-      pub standing-at : (joint : ℕ) → joint ≡ j → Standing G (viewOf frames (drop a frames) k to) block k to joint fs
-      standing-at joint number = rw (is, ends, number) standing-copy
+      pub cached-at : (joint : ℕ) → joint ≡ j → Cached G (viewOf frames (drop a frames) k to) block k to joint fs
+      cached-at joint number = rw (is, ends, number) cached-copy
 
       pub slope-at : slopeTo G fs (viewOf frames (drop a frames) k to) block ≡ gradientAt G gs x j
       slope-at = rw (is, ends) slope-copy

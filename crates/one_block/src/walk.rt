@@ -11,7 +11,7 @@ ghost use lib.Ieee.{Float, nan};
 ghost use Rattle.lists.specs.Splice.{splice};
 ghost use Rattle.lists.specs.Runs.{runs};
 ghost use Rattle.sheet.specs.Chain.{jointOf};
-ghost use Rattle.task.specs.Task.{lent};
+ghost use Rattle.lists.specs.Lent.{lent};
 ghost use Rattle.spacetime.specs.Floats.{flat};
 ghost use Rattle.spacetime.specs.Walk.{Sheet, poses};
 ghost use Rattle.gradient.specs.Slopes.{step};
@@ -28,7 +28,7 @@ pub struct Place {
 // Walking a link: the only function here that makes a link pose, and the only one that writes the record.
 pub fn walk_link(
     here: Place,
-    sizes: &[u16],
+    counts: &[u16],
     codes: &[u16],
     floats: &[f64],
     block: &[f64],
@@ -38,17 +38,17 @@ pub fn walk_link(
     links: &mut [u16],
     frames: &mut [f64],
 ) -> Place
-    requires { ⌜ Sheet (now sizes) (now codes) (now floats) (now block) ⌝ }
+    requires { ⌜ Sheet (now counts) (now codes) (now floats) (now block) ⌝ }
     requires { ⌜ (link < length (now codes)) × (here .joint ≡ jointOf (now codes) link) ⌝ }
     requires { ⌜ Room (now joints) (now links) (now frames) (here .at + 1) ⌝ }
-    ensures { λ r. ⌜ r ≡ placeAfter (lent sizes) (lent codes) (lent floats) (lent block) link here ⌝ }
+    ensures { λ r. ⌜ r ≡ placeAfter (lent counts) (lent codes) (lent floats) (lent block) link here ⌝ }
     ensures { λ _. ⌜ now (joints .exit) ≡ splice (lent joints) (here .at) (raised ∷ []) ⌝ }
     ensures { λ _. ⌜ now (links .exit) ≡ splice (lent links) (here .at) (link ∷ []) ⌝ }
     ensures { λ r. ⌜ now (frames .exit) ≡ splice (lent frames) (7 * here .at) (flat (r .pose)) ⌝ }
 {
     let at = here.at;
     let joint = here.joint;
-    let before = arm::start(sizes, link, here.pose);
+    let before = arm::start(counts, link, here.pose);
     let pose = arm::after_link(before, codes, floats, block, link, joint);
     joints[at] = raised;
     links[at] = link as u16;
@@ -62,7 +62,7 @@ pub fn walk_link(
 
 // Walks the links from `from` to `to`.
 pub fn walk(
-    sizes: &[u16],
+    counts: &[u16],
     codes: &[u16],
     floats: &[f64],
     block: &[f64],
@@ -74,22 +74,22 @@ pub fn walk(
     links: &mut [u16],
     frames: &mut [f64],
 ) -> Place
-    requires { ⌜ Sheet (now sizes) (now codes) (now floats) (now block) ⌝ }
+    requires { ⌜ Sheet (now counts) (now codes) (now floats) (now block) ⌝ }
     requires { ⌜ (from ≤ to) × (to ≤ length (now codes)) ⌝ }
-    requires { ⌜ Meets (now sizes) (now codes) (now floats) (now block) from here ⌝ }
+    requires { ⌜ Meets (now counts) (now codes) (now floats) (now block) from here ⌝ }
     requires { ⌜ Room (now joints) (now links) (now frames) (here .at + (to - from)) ⌝ }
-    ensures { λ r. ⌜ r ≡ placeAfterAll (lent sizes) (lent codes) (lent floats) (lent block) from (to - from) here ⌝ }
+    ensures { λ r. ⌜ r ≡ placeAfterAll (lent counts) (lent codes) (lent floats) (lent block) from (to - from) here ⌝ }
     ensures { λ _. ⌜ now (joints .exit) ≡ splice (lent joints) (here .at) (runs (jointEntry raised) from (to - from)) ⌝ }
     ensures { λ _. ⌜ now (links .exit) ≡ splice (lent links) (here .at) (runs (linkEntry raised) from (to - from)) ⌝ }
     ensures { λ _. ⌜ now (frames .exit) ≡ splice (lent frames) (7 * here .at)
-        (runs (poses (lent sizes) (lent codes) (lent floats) (lent block)) from (to - from)) ⌝ }
+        (runs (poses (lent counts) (lent codes) (lent floats) (lent block)) from (to - from)) ⌝ }
 {
     let mut p = here;
     let mut link = from;
     while link < to {
         p = walk_link(
             p,
-            sizes,
+            counts,
             codes,
             floats,
             block,
@@ -117,7 +117,7 @@ pub fn raise(block: &mut [f64], joint: usize) -> f64
 
 // Walks again from a joint's link to the end of its chain, on the block as it is, and answers the record's next entry.
 pub fn walk_again(
-    sizes: &[u16],
+    counts: &[u16],
     codes: &[u16],
     floats: &[f64],
     block: &mut [f64],
@@ -128,20 +128,20 @@ pub fn walk_again(
     links: &mut [u16],
     frames: &mut [f64],
 ) -> usize
-    requires { ⌜ Sheet (now sizes) (now codes) (now floats) (now block) ⌝ }
+    requires { ⌜ Sheet (now counts) (now codes) (now floats) (now block) ⌝ }
     requires { ⌜ (link ≤ end) × (end ≤ length (now codes)) ⌝ }
-    requires { ⌜ Meets (now sizes) (now codes) (now floats) (now block) link here ⌝ }
+    requires { ⌜ Meets (now counts) (now codes) (now floats) (now block) link here ⌝ }
     requires { ⌜ Room (now joints) (now links) (now frames) (here .at + (end - link)) ⌝ }
     ensures { λ r. ⌜ r ≡ here .at + (end - link) ⌝ }
     ensures { λ _. ⌜ now (block .exit) ≡ lent block ⌝ }
     ensures { λ _. ⌜ now (joints .exit) ≡ splice (lent joints) (here .at) (runs (jointEntry (here .joint)) link (end - link)) ⌝ }
     ensures { λ _. ⌜ now (links .exit) ≡ splice (lent links) (here .at) (runs (linkEntry (here .joint)) link (end - link)) ⌝ }
     ensures { λ _. ⌜ now (frames .exit) ≡ splice (lent frames) (7 * here .at)
-        (runs (poses (lent sizes) (lent codes) (lent floats) (lent block)) link (end - link)) ⌝ }
+        (runs (poses (lent counts) (lent codes) (lent floats) (lent block)) link (end - link)) ⌝ }
 {
     let raised = here.joint as u16;
     let after = walk(
-        sizes,
+        counts,
         codes,
         floats,
         block,

@@ -11,11 +11,12 @@ use Rattle.refusals.specs.Lowest.{firstOf}
 use Rattle.refusals.specs.Refusal.{linksOf, roomRefusal}
 use Rattle.one_block.specs.Record.{entriesOf, recordJoints, recordLinks, recordPoses}
 use Rattle.calls.specs.Arms.{ifTaken}
-use Rattle.one_block_calls.specs.Room.{recordRefusal}
+use Rattle.calls.specs.OneBlock.{recordRefusal}
 use Rattle.lent_bytes.specs.Lent.{numberRoomIn, bytesOfNumbers}
-use Rattle.lent_bytes.specs.SheetLists.{LentList, lent, SheetLists}
+use Rattle.lists.specs.Lent.{lent, LentList}
+use Rattle.lent_bytes.specs.SheetLists.{SheetLists}
 use Rattle.arm_bytes.specs.ArmCalls.{outputOf}
-use Rattle.objective_bytes.specs.ObjectiveCalls.{aimedNumber}
+use Rattle.objective_bytes.specs.ObjectiveCalls.{taskNumber}
 
 -- the record's entries
 abbrev pub entriesIn : SheetLists → ℕ
@@ -24,18 +25,18 @@ entriesIn s = entriesOf (linksOf (s .sizes)) (s .codes)
 -- 1 to 8, then 9 for any output; rooms are in floats, and in u16s for joints rj and links rl
 unfoldable pub oneBlockNumber : SheetLists → List Float → List Float → List Float → ℕ → ℕ → ℕ → ℕ → ℕ → ℕ
 oneBlockNumber s goals history x value slopes rj rl rp =
-    firstOf (aimedNumber s goals history x)
+    firstOf (taskNumber s goals history x)
     (firstOf (roomRefusal valueLength value) (firstOf (roomRefusal (slopesLength (s .codes)) slopes) (recordRefusal (entriesIn s) rj rl rp)))
 
 -- the record's three lists
-unfoldable pub jointsIn : SheetLists → List ℕ
-jointsIn s = recordJoints (linksOf (s .sizes)) (s .codes)
+unfoldable pub recordJointsIn : SheetLists → List ℕ
+recordJointsIn s = recordJoints (linksOf (s .sizes)) (s .codes)
 
-unfoldable pub linksIn : SheetLists → List ℕ
-linksIn s = recordLinks (linksOf (s .sizes)) (s .codes)
+unfoldable pub recordLinksIn : SheetLists → List ℕ
+recordLinksIn s = recordLinks (linksOf (s .sizes)) (s .codes)
 
-unfoldable pub posesIn : SheetLists → List Float → List Float
-posesIn s x = recordPoses (linksOf (s .sizes)) (s .codes) (s .floats) x
+unfoldable pub recordPosesIn : SheetLists → List Float → List Float
+recordPosesIn s x = recordPoses (linksOf (s .sizes)) (s .codes) (s .floats) x
 
 -- the room in u16s of an output
 abbrev pub numberRoomOf : {X : Type 0} → LentList ℕ X → ℕ
@@ -48,9 +49,9 @@ numbersOutputOf r out answer = ifTaken r (lent out) (splice (lent out) 0 (bytesO
 -- the record's three lists at the fronts of three lists
 abbrev pub RecordHeld : SheetLists → List Float → LentList ℕ (RefT (List ℕ)) → LentList ℕ (RefT (List ℕ)) → LentList Float (RefT (List Float)) → Type 0
 RecordHeld s x joints links poses =
-    (now (joints .exit) ≡ splice (lent joints) 0 (jointsIn s)) × (now (links .exit) ≡ splice (lent links) 0 (linksIn s)) × (now (poses .exit) ≡ splice (lent poses) 0 (posesIn s x))
+    (now (joints .exit) ≡ splice (lent joints) 0 (recordJointsIn s)) × (now (links .exit) ≡ splice (lent links) 0 (recordLinksIn s)) × (now (poses .exit) ≡ splice (lent poses) 0 (recordPosesIn s x))
 
 -- and as bytes in three outputs, after a call of number r
 abbrev pub RecordWritten : ℕ → SheetLists → List Float → LentList ℕ (RefT (List ℕ)) → LentList ℕ (RefT (List ℕ)) → LentList ℕ (RefT (List ℕ)) → Type 0
 RecordWritten r s x joints links poses =
-    (now (joints .exit) ≡ numbersOutputOf r joints (jointsIn s)) × (now (links .exit) ≡ numbersOutputOf r links (linksIn s)) × (now (poses .exit) ≡ outputOf r poses (posesIn s x))
+    (now (joints .exit) ≡ numbersOutputOf r joints (recordJointsIn s)) × (now (links .exit) ≡ numbersOutputOf r links (recordLinksIn s)) × (now (poses .exit) ≡ outputOf r poses (recordPosesIn s x))

@@ -15,13 +15,13 @@ use Rattle.refusals.specs.Refusal.{linksOf}
 use Rattle.refusals.specs.Passed.{Shape, load-passed, room-passed}
 use Rattle.one_block.specs.Record.{againAt, againBelow, entriesOf}
 use Rattle.one_block.specs.Laws.{again-at-joint, again-at-fixed, length-joints, length-links, length-poses}
-use Rattle.one_block_calls.specs.Room.{recordRefusal}
+use Rattle.calls.specs.OneBlock.{recordRefusal}
 use Rattle.lent_bytes.specs.Lent.{roomIn, numberRoomIn, number-room-within}
 use Rattle.lent_bytes.specs.SheetLists.{SheetLists}
 use Rattle.arm_bytes.specs.ArmLaws.{bytes-fit}
-use Rattle.objective_bytes.specs.ObjectiveCalls.{aimedNumber}
-use Rattle.objective_bytes.specs.ObjectiveLaws.{Taken, aimed-taken}
-use Rattle.one_block_bytes.specs.OneBlockCalls.{entriesIn, oneBlockNumber, jointsIn, linksIn, posesIn}
+use Rattle.objective_bytes.specs.ObjectiveCalls.{taskNumber}
+use Rattle.objective_bytes.specs.ObjectiveLaws.{Taken, task-taken}
+use Rattle.one_block_bytes.specs.OneBlockCalls.{entriesIn, oneBlockNumber, recordJointsIn, recordLinksIn, recordPosesIn}
 
 -- ---- how many entries: chains have at most 16 links, and there are at most 16 joints
 end-near : (ns : List ℕ) (k : ℕ) → ((c : ℕ) → c < length ns → getD ns c 0 ≤ 16) → endIn ns k ≤ k + 16
@@ -58,7 +58,7 @@ shape-entries sizes cs floats s =
 
 -- ---- what a call knows that is accepted with outputs of so many bytes
 pub record Fitted (s : SheetLists) (goals history x : List Float) (value slopes rj rl rp : ℕ) : Type 0 where
-  pub aimed : aimedNumber s goals history x ≡ 0
+  pub accepted : taskNumber s goals history x ≡ 0
   pub few : length x ≤ 16
   pub entries : entriesIn s ≤ 320
   pub value-room : 8 ≤ value
@@ -74,9 +74,9 @@ pub record Counted (s : SheetLists) : Type 0 where
   pub links : length (s .codes) ≤ 64
   pub entries : entriesIn s ≤ 320
 
-pub aimed-counted : (s : SheetLists) (goals history x : List Float) → aimedNumber s goals history x ≡ 0 → Counted s
-unfolding aimedNumber
-aimed-counted s goals history x e =
+pub task-counted : (s : SheetLists) (goals history x : List Float) → taskNumber s goals history x ≡ 0 → Counted s
+unfolding taskNumber
+task-counted s goals history x e =
     let p : Shape (s .sizes) (s .codes) (length (s .floats)) = load-passed (s .sizes) (s .codes) (s .floats) (s .limits) (first-none _ _ e .0) .0 in
     record {
       whole = p .whole;
@@ -96,11 +96,11 @@ one-block-fitted s goals history x value slopes rj rl rp e =
     let r = first-none _ _ (q .1) in
     let u = first-none _ _ (r .1) in
     let v = first-none _ _ (u .1) in
-    let t : Taken s goals history x = aimed-taken s goals history x (p .0) in
+    let t : Taken s goals history x = task-taken s goals history x (p .0) in
     record {
-      aimed = p .0;
+      accepted = p .0;
       few = omega (arith, t .block, t .few);
-      entries = aimed-counted s goals history x (p .0) .entries;
+      entries = task-counted s goals history x (p .0) .entries;
       value-room = omega (arith, bytes-fit 1 value (roomIn value) refl (q .0));
       slopes-room = omega (arith, t .block, bytes-fit n slopes (roomIn slopes) refl (r .0));
       joints-room = omega (arith, room-passed (entriesIn s) (numberRoomIn rj) (u .0), number-room-within rj);
@@ -109,14 +109,14 @@ one-block-fitted s goals history x value slopes rj rl rp e =
     }
 
 -- ---- how long the record is
-pub joints-in-length : (s : SheetLists) → length (jointsIn s) ≡ entriesIn s
-unfolding jointsIn
+pub joints-in-length : (s : SheetLists) → length (recordJointsIn s) ≡ entriesIn s
+unfolding recordJointsIn
 joints-in-length s = length-joints (linksOf (s .sizes)) (s .codes)
 
-pub links-in-length : (s : SheetLists) → length (linksIn s) ≡ entriesIn s
-unfolding linksIn
+pub links-in-length : (s : SheetLists) → length (recordLinksIn s) ≡ entriesIn s
+unfolding recordLinksIn
 links-in-length s = length-links (linksOf (s .sizes)) (s .codes)
 
-pub poses-in-length : (s : SheetLists) (x : List Float) → length (posesIn s x) ≡ 7 * entriesIn s
-unfolding posesIn
+pub poses-in-length : (s : SheetLists) (x : List Float) → length (recordPosesIn s x) ≡ 7 * entriesIn s
+unfolding recordPosesIn
 poses-in-length s x = length-poses (linksOf (s .sizes)) (s .codes) (s .floats) x

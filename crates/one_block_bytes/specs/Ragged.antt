@@ -11,12 +11,12 @@ use Rattle.sheet.specs.Chain.{joints, joint-le, joint-last}
 use Rattle.refusals.specs.Lowest.{firstOf, first-zero, first-some, first-none}
 use Rattle.refusals.specs.Refusal.{roomRefusal}
 use Rattle.one_block.specs.Record.{entriesOf}
-use Rattle.one_block_calls.specs.Room.{recordRefusal}
+use Rattle.calls.specs.OneBlock.{recordRefusal}
 use Rattle.lent_bytes.specs.Lent.{roomIn, numberRoomIn}
 use Rattle.lent_bytes.specs.SheetLists.{SheetLists}
 use Rattle.arm_bytes.specs.ArmCalls.{loadNumber}
 use Rattle.arm_bytes.specs.Ragged.{after, ragged-output, second-output, moving}
-use Rattle.objective_bytes.specs.ObjectiveCalls.{aimedNumber}
+use Rattle.objective_bytes.specs.ObjectiveCalls.{taskNumber}
 use Rattle.one_block_bytes.specs.OneBlockCalls.{entriesIn, oneBlockNumber}
 
 some-first : (a b k : ℕ) → a ≡ suc k → firstOf a b ≡ suc k
@@ -24,12 +24,12 @@ some-first a b k e = first-some a b (λ z. omega (arith, e, z)) ∙ e
 
 -- a call that is refused with one of 1 to 8
 module _ (s : SheetLists) (goals history x : List Float) (value slopes rj rl rp k : ℕ) where
-  pub one-block-refused : aimedNumber s goals history x ≡ suc k → oneBlockNumber s goals history x value slopes rj rl rp ≡ suc k
+  pub one-block-refused : taskNumber s goals history x ≡ suc k → oneBlockNumber s goals history x value slopes rj rl rp ≡ suc k
   unfolding oneBlockNumber
   one-block-refused e = some-first _ _ k e
 
   pub one-block-sheet-refused : loadNumber s ≡ suc k → oneBlockNumber s goals history x value slopes rj rl rp ≡ suc k
-  unfolding aimedNumber
+  unfolding taskNumber
   one-block-sheet-refused e = one-block-refused (some-first _ _ k e)
 
 -- an output of u16s that is ragged has no room
@@ -38,9 +38,9 @@ unfolding roomRefusal numberRoomIn
 ragged-numbers needed n h m = rw (ne-eqb (n % 2) 0 m, lt-ltb 0 needed h)
 
 -- on input that is taken
-module _ (s : SheetLists) (goals history x : List Float) (q : aimedNumber s goals history x ≡ 0) where
+module _ (s : SheetLists) (goals history x : List Float) (q : taskNumber s goals history x ≡ 0) where
   jointed : 2 ≤ joints (s .codes)
-  unfolding aimedNumber
+  unfolding taskNumber
   jointed = moving s (first-none _ _ q .0)
 
   -- the record has at least one entry for each link

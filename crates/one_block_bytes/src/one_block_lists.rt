@@ -1,8 +1,8 @@
 // What the byte call of the one-block gradient does once its lists are decoded; outputs are bytes.
+use calls::one_block_slopes as room;
 use lent_bytes::lent as bytes_lent;
 use objective_bytes::objective_lists;
 use one_block::grad;
-use one_block_calls::slopes as room;
 use refusals::lengths;
 use refusals::lent;
 use refusals::shape;
@@ -12,9 +12,10 @@ ghost use Prim.Native.Nat.{_*_, _≤_};
 ghost use lib.ListN.{length, take};
 ghost use Rattle.lists.specs.Splice.{splice};
 ghost use Rattle.lent_bytes.specs.Lent.{roomIn, numberRoomIn, bytesOf, bytesOfNumbers};
-ghost use Rattle.lent_bytes.specs.SheetLists.{lent, sheetWith, sheetOf, roomOf};
+ghost use Rattle.lists.specs.Lent.{lent};
+ghost use Rattle.lent_bytes.specs.SheetLists.{sheetWith, sheetOf, roomOf};
 ghost use Rattle.arm_bytes.specs.ArmCalls.{outputOf};
-ghost use Rattle.objective_bytes.specs.ObjectiveCalls.{aimedNumber, valueIn, objectiveValue, gradientSlopes};
+ghost use Rattle.objective_bytes.specs.ObjectiveCalls.{taskNumber, valueIn, objectiveValue, gradientSlopes};
 ghost use Rattle.one_block_bytes.specs.OneBlockCalls.{entriesIn, oneBlockNumber, numberRoomOf, RecordHeld, RecordWritten};
 ghost use Rattle.one_block_bytes.specs.OneBlockLaws.{Counted};
 
@@ -43,9 +44,17 @@ fn one_block_number(
     ensures { λ r. ⌜ r ≡ oneBlockNumber (sheetOf sizes codes floats limits) (lent goals) (lent history) (lent joints)
         (roomIn value) (roomIn slopes) (numberRoomIn «record_joints») (numberRoomIn «record_links») (roomIn «record_poses») ⌝ }
 {
-    let aimed = objective_lists::aimed_number(sizes, codes, floats, limits, goals, history, joints);
-    if aimed != 0 {
-        return aimed;
+    let of_task = objective_lists::task_number(
+        sizes,
+        codes,
+        floats,
+        limits,
+        goals,
+        history,
+        joints,
+    );
+    if of_task != 0 {
+        return of_task;
     }
     let n = lengths::block_length(codes);
     let first = lent::room_refusal(1, bytes_lent::room(value));
@@ -73,7 +82,7 @@ fn one_block_on(
     record_links: &mut [u16],
     record_poses: &mut [f64],
 ) -> f64
-    requires { ⌜ aimedNumber (sheetWith (now sizes) (now codes) (now floats) (now limits)) (now goals) (now history) (now block) ≡ 0 ⌝ }
+    requires { ⌜ taskNumber (sheetWith (now sizes) (now codes) (now floats) (now limits)) (now goals) (now history) (now block) ≡ 0 ⌝ }
     requires { ⌜ (length (now slopes) ≡ 16) × (length (now «record_joints») ≡ 320) × (length (now «record_links») ≡ 320) × (length (now «record_poses») ≡ 2240) ⌝ }
     ensures { λ r. ⌜ r ≡ valueIn (sheetOf sizes codes floats limits) (lent goals) (lent history) (lent block) ⌝ }
     ensures { λ _. ⌜ now (block .exit) ≡ now (block .entry) ⌝ }

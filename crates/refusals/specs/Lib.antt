@@ -2,7 +2,6 @@ pub mod Range
 pub mod Lowest
 pub mod Lengths
 pub mod Refusal
-pub mod Turn
 pub mod Passed
 pub mod Plain
 pub mod Rows

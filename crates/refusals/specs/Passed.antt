@@ -8,10 +8,11 @@ use lib.Dec.{leb, eqb}
 use lib.Ieee.{Float}
 use lib.ListN.{length, getD, length-drop}
 use borrow.Author.Tests.{ltb-false, le-ltb, leb-true, eqb-true, ne-eqb, not-false}
-use Rattle.sheet.specs.Chain.{total, joints}
-use Rattle.refusals.specs.Range.{every-at, between, and-true}
+use Rattle.sheet.specs.Chain.{total, joints, chainLength}
+use Rattle.lists.specs.Tests.{and-true}
+use Rattle.refusals.specs.Range.{every-at, between}
 use Rattle.refusals.specs.Lowest.{lowestFrom, lowest, lowest-found, lowest-none, none-lowest, firstOf, first-none}
-use Rattle.refusals.specs.Refusal.{chainsOf, linksOf, linksFit, badSizes, badLengths, listedCode, listedAt, badCodes, chainJoints, twoJoints, laterFits, badJoints, badLimits, badFloats, badBlock, badHistory, badGoals, shapeConditions, shapeRefusal, loadConditions, loadRefusal, blockRefusal, historyRefusal, goalsRefusal, roomRefusal}
+use Rattle.refusals.specs.Refusal.{chainsOf, linksOf, linksFit, badSizes, badLengths, listedCode, listedAt, badCodes, twoJoints, laterFits, badJoints, badLimits, badFloats, badBlock, badHistory, badGoals, shapeConditions, shapeRefusal, loadConditions, loadRefusal, blockRefusal, historyRefusal, goalsRefusal, roomRefusal}
 
 -- ---- loading: the number is that of the lowest condition that holds, and 0 exactly if none does
 module _ (sizes codes : List ℕ) (floats limits : List Float) where
@@ -104,11 +105,11 @@ pub record Shape (sizes codes : List ℕ) (floats : ℕ) : Type 0 where
   pub most : length codes ≤ 64
   pub wide : floats ≡ 7 * length codes
   pub listed : (l : ℕ) → l < length codes → listedCode (getD codes l 0) ≡ true
-  pub two : (c : ℕ) → c < chainsOf sizes → 2 ≤ chainJoints (linksOf sizes) codes c
+  pub two : (c : ℕ) → c < chainsOf sizes → 2 ≤ chainLength (linksOf sizes) codes c
   pub moving : joints codes ≤ 16
-  pub later : (c : ℕ) → 0 < c → c < chainsOf sizes → chainJoints (linksOf sizes) codes c ≤ getD (linksOf sizes) 0 0
+  pub later : (c : ℕ) → 0 < c → c < chainsOf sizes → chainLength (linksOf sizes) codes c ≤ getD (linksOf sizes) 0 0
 
-later-is : (ns codes : List ℕ) (c : ℕ) → laterFits ns codes c ≡ true → 0 < c → chainJoints ns codes c ≤ getD ns 0 0
+later-is : (ns codes : List ℕ) (c : ℕ) → laterFits ns codes c ≡ true → 0 < c → chainLength ns codes c ≤ getD ns 0 0
 unfolding laterFits
 later-is ns codes c e h = leb-true _ _ (rw (ne-eqb c 0 (λ z. omega arith)) at e)
 

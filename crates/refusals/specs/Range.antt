@@ -10,6 +10,7 @@ use native.Mathlib.Omega.{arith}
 use lib.Dec.{leb}
 use lib.Ieee.{Float, binary64, ofBits, neg, le, nan}
 use lib.ListN.{getD}
+use Rattle.lists.specs.Tests.{and-true}
 use Rattle.standins.specs.Num.{_⊕_, _⊗_}
 
 -- every number below n passes f
@@ -42,10 +43,6 @@ unfoldable pub unitAt : List Float → ℕ → Bool
 unitAt xs at = nearOne (squaresOf (getD xs at nan) (getD xs (at + 1) nan) (getD xs (at + 2) nan) (getD xs (at + 3) nan))
 
 -- ---- laws
-pub and-true : (a b : Bool) → (a && b) ≡ true → (a ≡ true) × (b ≡ true)
-and-true true b e = (refl, e)
-and-true false b e = (e, absurd (let z : _≡_ {A = ℕ} 0 1 = cc in omega arith))
-
 module _ (f : ℕ → Bool) where
   pub every-none : every f 0 ≡ true
   unfolding every

@@ -9,7 +9,7 @@ use Rattle.standins.specs.Num.{_⊖_}
 use Rattle.sheet.specs.declared.code.Kind.{Kind}
 use Rattle.sheet.specs.declared.code.Kind.the-variants.{Fixed, Turning, Sliding, Unlisted}
 use Rattle.sheet.specs.Code.{hasJoint, kindOf}
-use Rattle.sheet.specs.Chain.{total, chainStart, jointOf, joints}
+use Rattle.sheet.specs.Chain.{total, jointOf, joints, chainLength}
 use Rattle.groove.specs.Loss.{freeOf}
 use Rattle.refusals.specs.Range.{every, between, within, withinAt, unitAt}
 use Rattle.refusals.specs.Lowest.{lowest}
@@ -57,17 +57,13 @@ listedAt codes l = listedCode (getD codes l 0)
 unfoldable pub badCodes : List ℕ → Bool
 badCodes codes = not (every (listedAt codes) (length codes))
 
--- the joints of chain c
-unfoldable pub chainJoints : List ℕ → List ℕ → ℕ → ℕ
-chainJoints ns codes c = jointOf codes (chainStart ns (c + 1)) - jointOf codes (chainStart ns c)
-
 -- chain c has at least 2 joints
 unfoldable pub twoJoints : List ℕ → List ℕ → ℕ → Bool
-twoJoints ns codes c = leb 2 (chainJoints ns codes c)
+twoJoints ns codes c = leb 2 (chainLength ns codes c)
 
 -- chain c is chain 0, or has no more joints than chain 0 has links
 unfoldable pub laterFits : List ℕ → List ℕ → ℕ → Bool
-laterFits ns codes c = eqb c 0 || leb (chainJoints ns codes c) (getD ns 0 0)
+laterFits ns codes c = eqb c 0 || leb (chainLength ns codes c) (getD ns 0 0)
 
 -- 4. A chain under 2 joints, more than 16 in all, or a later chain with more joints than chain 0 has links.
 unfoldable pub badJoints : List ℕ → List ℕ → Bool

@@ -11,7 +11,7 @@ use lib.Ieee.{Float}
 use lib.ListN.{length, getD}
 use borrow.Author.Tests.{leb-true, le-leb}
 use Rattle.sheet.specs.Chain.{joints}
-use Rattle.refusals.specs.Range.{and-true}
+use Rattle.lists.specs.Tests.{and-true}
 use Rattle.refusals.specs.Lowest.{lowestFrom, lowest, firstOf, first-zero, first-some, first-last}
 use Rattle.refusals.specs.Refusal.{linksOf, badSizes, badLengths, badCodes, badJoints, badLimits, badFloats, badBlock, badHistory, badGoals, loadRefusal, blockRefusal, historyRefusal, goalsRefusal, roomRefusal}
 

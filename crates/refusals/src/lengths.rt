@@ -1,4 +1,4 @@
-// How long a call's lists are. `sizes` has the links of each chain, without the chain count in front.
+// How long a call's lists are. `counts` has the links of each chain, without the chain count in front.
 use sheet::chain;
 ghost use mathlib.Core.Path.{_≡_};
 ghost use Prim.Native.Nat.{_≤_};
@@ -6,25 +6,25 @@ ghost use lib.ListN.{length};
 ghost use Rattle.sheet.specs.Chain.{total};
 ghost use Rattle.refusals.specs.Lengths.{positionsLength, rotationsLength, endsLength, blockLength, historyLength, recordPosesLength};
 
-pub fn positions_length(sizes: &[u16]) -> usize
-    requires { ⌜ (length (now sizes) ≤ 4) × (total (now sizes) ≤ 64) ⌝ }
-    ensures { λ r. ⌜ r ≡ positionsLength (now (sizes .entry)) ⌝ }
+pub fn positions_length(counts: &[u16]) -> usize
+    requires { ⌜ (length (now counts) ≤ 4) × (total (now counts) ≤ 64) ⌝ }
+    ensures { λ r. ⌜ r ≡ positionsLength (now (counts .entry)) ⌝ }
 {
-    3 * (chain::total_links(sizes) + sizes.len())
+    3 * (chain::total_links(counts) + counts.len())
 }
 
-pub fn rotations_length(sizes: &[u16]) -> usize
-    requires { ⌜ (length (now sizes) ≤ 4) × (total (now sizes) ≤ 64) ⌝ }
-    ensures { λ r. ⌜ r ≡ rotationsLength (now (sizes .entry)) ⌝ }
+pub fn rotations_length(counts: &[u16]) -> usize
+    requires { ⌜ (length (now counts) ≤ 4) × (total (now counts) ≤ 64) ⌝ }
+    ensures { λ r. ⌜ r ≡ rotationsLength (now (counts .entry)) ⌝ }
 {
-    4 * (chain::total_links(sizes) + 2 * sizes.len())
+    4 * (chain::total_links(counts) + 2 * counts.len())
 }
 
-pub fn ends_length(sizes: &[u16]) -> usize
-    requires { ⌜ length (now sizes) ≤ 4 ⌝ }
-    ensures { λ r. ⌜ r ≡ endsLength (now (sizes .entry)) ⌝ }
+pub fn ends_length(counts: &[u16]) -> usize
+    requires { ⌜ length (now counts) ≤ 4 ⌝ }
+    ensures { λ r. ⌜ r ≡ endsLength (now (counts .entry)) ⌝ }
 {
-    7 * sizes.len()
+    7 * counts.len()
 }
 
 pub fn record_poses_length(entries: usize) -> usize

@@ -2,19 +2,13 @@
 use crate::lent;
 use crate::range;
 use crate::shape;
+use groove::objective;
 use sheet::chain;
 ghost use mathlib.Core.Path.{_≡_};
 ghost use mathlib.Core.Bool.{cond};
 ghost use Prim.Native.Nat.{_+_, _*_, _≤_};
 ghost use lib.ListN.{length};
-ghost use Rattle.groove.specs.Loss.{freeOf};
 ghost use Rattle.refusals.specs.Refusal.{rangedPair, pairFits, badLimits, linkFits, badFloats, loadRefusal};
-
-fn free(lower: f64, upper: f64) -> bool
-    ensures { λ r. ⌜ r ≡ freeOf lower upper ⌝ }
-{
-    lower == -999.0 && upper == 999.0
-}
 
 fn ranged(lower: f64, upper: f64) -> bool
     ensures { λ r. ⌜ r ≡ rangedPair lower upper ⌝ }
@@ -31,7 +25,7 @@ fn ranged(lower: f64, upper: f64) -> bool
 fn pair_fits(lower: f64, upper: f64) -> bool
     ensures { λ r. ⌜ r ≡ pairFits lower upper ⌝ }
 {
-    free(lower, upper) || ranged(lower, upper)
+    objective::free(lower, upper) || ranged(lower, upper)
 }
 
 fn limits_refusal(joints: usize, limits: &[f64]) -> u16

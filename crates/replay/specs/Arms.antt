@@ -4,8 +4,8 @@ use mathlib.Core.List.{List, [], _∷_}
 use Prim.Native.Nat.{ℕ, _+_}
 use lib.ListN.{length}
 use lib.Ieee.{Float}
-use Rattle.lent_bytes.specs.Lent.{numbersIn, floatsIn, roomIn, bytesOf}
-use Rattle.lent_bytes.specs.SheetLists.{SheetLists, sheetWith}
+use Rattle.lent_bytes.specs.Lent.{roomIn, bytesOf}
+use Rattle.lent_bytes.specs.SheetLists.{SheetLists, sheetFrom, blockFrom, goalsFrom, historyFrom}
 use Rattle.arm_bytes.specs.ArmCalls.{loadNumber, setGoalsNumber, framesNumber, poseNumber, updateNumber, resetNumber, manipulabilityNumber}
 use Rattle.arm_bytes.specs.ArmCalls.{framePositions, frameRotations, endPoses, updatedBlocks, resetBlocks, manipulabilityValue}
 use Rattle.stored_answers.specs.Stored.{listOf}
@@ -14,16 +14,16 @@ use Rattle.stored_answers.specs.Agree.{written, answerAgrees}
 
 -- what the record at a place lends the call
 abbrev pub sheetAt : List ℕ → ℕ → SheetLists
-sheetAt s at = sheetWith (numbersIn 5 (listOf s at sizesList)) (numbersIn 64 (listOf s at codesList)) (floatsIn 448 (listOf s at floatsList)) (floatsIn 32 (listOf s at limitsList))
+sheetAt s at = sheetFrom (listOf s at sizesList) (listOf s at codesList) (listOf s at floatsList) (listOf s at limitsList)
 
 abbrev pub blockAt : List ℕ → ℕ → ℕ → List Float
-blockAt s at k = floatsIn 16 (listOf s at k)
+blockAt s at k = blockFrom (listOf s at k)
 
 abbrev pub goalsAt : List ℕ → ℕ → ℕ → List Float
-goalsAt s at k = floatsIn 52 (listOf s at k)
+goalsAt s at k = goalsFrom (listOf s at k)
 
 abbrev pub historyAt : List ℕ → ℕ → ℕ → List Float
-historyAt s at k = floatsIn 64 (listOf s at k)
+historyAt s at k = historyFrom (listOf s at k)
 
 abbrev pub roomAt : List ℕ → ℕ → ℕ → ℕ
 roomAt s at k = roomIn (length (listOf s at k))

@@ -24,6 +24,7 @@ use Rattle.lent_bytes.specs.Bytes.{floatAt}
 use Rattle.lent_bytes.specs.Lent.{floatsIn, bytesOf}
 use Rattle.stored_answers.specs.Stored.{numberAt, listOf}
 use Rattle.stored_answers.specs.Agree.{answerAgrees}
+use Rattle.spacetime.specs.Floats.{flatVec, flatQuat}
 use Rattle.replay.specs.Table.{askedList, answeredList}
 
 -- three and four floats of a byte list, from float i on
@@ -92,20 +93,14 @@ vecOf c b =
     (cond (eqb c 38) (crossOf (vecAt b 0) (vecAt b 3))
     (scaledAxisOf (quatAt b 0)))
 
-abbrev pub quatList : Quat → List Float
-quatList q = q .w ∷ q .i ∷ q .j ∷ q .k ∷ []
-
-abbrev pub vecList : Vec3 → List Float
-vecList v = v .x ∷ v .y ∷ v .z ∷ []
-
 -- all of them; 40 is the product of columns of six with their transpose
 unfoldable pub leafOf : ℕ → List ℕ → List Float
 leafOf c b =
     cond (ltb c 22) (standinOf c b ∷ [])
     (cond (ltb c 29) (lossOf c b ∷ [])
     (cond (ltb c 32) (measureOf c b ∷ [])
-    (cond (ltb c 37) (quatList (quatOf c b))
-    (cond (ltb c 40) (vecList (vecOf c b))
+    (cond (ltb c 37) (flatQuat (quatOf c b))
+    (cond (ltb c 40) (flatVec (vecOf c b))
     (gramOf (floatsIn 96 b))))))
 
 unfoldable pub leafAgrees : List ℕ → ℕ → Bool
@@ -125,11 +120,11 @@ module _ (c : ℕ) (b : List ℕ) where
   unfolding leafOf
   leaf-measure l h = rw (le-ltb c 22 (omega arith), le-ltb c 29 l, lt-ltb c 32 h)
 
-  pub leaf-quat : 32 ≤ c → c < 37 → leafOf c b ≡ quatList (quatOf c b)
+  pub leaf-quat : 32 ≤ c → c < 37 → leafOf c b ≡ flatQuat (quatOf c b)
   unfolding leafOf
   leaf-quat l h = rw (le-ltb c 22 (omega arith), le-ltb c 29 (omega arith), le-ltb c 32 l, lt-ltb c 37 h)
 
-  pub leaf-vec : 37 ≤ c → c < 40 → leafOf c b ≡ vecList (vecOf c b)
+  pub leaf-vec : 37 ≤ c → c < 40 → leafOf c b ≡ flatVec (vecOf c b)
   unfolding leafOf
   leaf-vec l h = rw (le-ltb c 22 (omega arith), le-ltb c 29 (omega arith), le-ltb c 32 (omega arith), le-ltb c 37 l, lt-ltb c 40 h)
 

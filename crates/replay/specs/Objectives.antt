@@ -6,7 +6,7 @@ use lib.Ieee.{Float}
 use lib.ListN.{length}
 use Rattle.lent_bytes.specs.Lent.{numberRoomIn, bytesOf, bytesOfNumbers}
 use Rattle.objective_bytes.specs.ObjectiveCalls.{objectiveNumber, slopesNumber, objectiveValue, gradientSlopes, finiteDiffSlopes}
-use Rattle.one_block_bytes.specs.OneBlockCalls.{oneBlockNumber, jointsIn, linksIn, posesIn}
+use Rattle.one_block_bytes.specs.OneBlockCalls.{oneBlockNumber, recordJointsIn, recordLinksIn, recordPosesIn}
 use Rattle.stored_answers.specs.Stored.{listOf}
 use Rattle.stored_answers.specs.Agree.{written, answerAgrees}
 use Rattle.replay.specs.Table.{goalsList, historyList, jointsList, objectiveOutputs}
@@ -57,7 +57,7 @@ oneBlockAgrees s at =
     answerAgrees s at (oneBlockAt s at) objectiveOutputs
     (written (oneBlockAt s at) (listOf s at objectiveOutputs) (bytesOf (valueAt s at))
     ∷ written (oneBlockAt s at) (listOf s at (objectiveOutputs + 1)) (bytesOf (gradientSlopes (sheetAt s at) (goalsAt s at goalsList) (historyAt s at historyList) (blockAt s at jointsList)))
-    ∷ written (oneBlockAt s at) (listOf s at (objectiveOutputs + 2)) (bytesOfNumbers (jointsIn (sheetAt s at)))
-    ∷ written (oneBlockAt s at) (listOf s at (objectiveOutputs + 3)) (bytesOfNumbers (linksIn (sheetAt s at)))
-    ∷ written (oneBlockAt s at) (listOf s at (objectiveOutputs + 4)) (bytesOf (posesIn (sheetAt s at) (blockAt s at jointsList)))
+    ∷ written (oneBlockAt s at) (listOf s at (objectiveOutputs + 2)) (bytesOfNumbers (recordJointsIn (sheetAt s at)))
+    ∷ written (oneBlockAt s at) (listOf s at (objectiveOutputs + 3)) (bytesOfNumbers (recordLinksIn (sheetAt s at)))
+    ∷ written (oneBlockAt s at) (listOf s at (objectiveOutputs + 4)) (bytesOf (recordPosesIn (sheetAt s at) (blockAt s at jointsList)))
     ∷ [])

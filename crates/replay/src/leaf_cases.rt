@@ -12,8 +12,9 @@ ghost use Prim.Native.Nat.{_≤_, _^_};
 ghost use lib.ListN.{length};
 ghost use Rattle.lent_bytes.specs.Lent.{bytesOf};
 ghost use Rattle.stored_answers.specs.Agree.{answerAgrees};
+ghost use Rattle.spacetime.specs.Floats.{flatVec, flatQuat};
 ghost use Rattle.replay.specs.Table.{answeredList};
-ghost use Rattle.replay.specs.Leaves.{quatList, vecList, leafAgrees};
+ghost use Rattle.replay.specs.Leaves.{leafAgrees};
 
 fn floats(s: &[u8], at: usize, xs: &[f64]) -> bool
     requires { ⌜ (at ≤ 2 ^ 40) × (length (now xs) ≤ 36) ⌝ }
@@ -27,14 +28,14 @@ fn floats(s: &[u8], at: usize, xs: &[f64]) -> bool
 
 fn quat(s: &[u8], at: usize, q: Quat) -> bool
     requires { ⌜ at ≤ 2 ^ 40 ⌝ }
-    ensures { λ r. ⌜ r ≡ answerAgrees (now (s .entry)) at 0 answeredList (bytesOf (quatList q) ∷ []) ⌝ }
+    ensures { λ r. ⌜ r ≡ answerAgrees (now (s .entry)) at 0 answeredList (bytesOf (flatQuat q) ∷ []) ⌝ }
 {
     floats(s, at, &[q.w, q.i, q.j, q.k])
 }
 
 fn vec(s: &[u8], at: usize, v: Vec3) -> bool
     requires { ⌜ at ≤ 2 ^ 40 ⌝ }
-    ensures { λ r. ⌜ r ≡ answerAgrees (now (s .entry)) at 0 answeredList (bytesOf (vecList v) ∷ []) ⌝ }
+    ensures { λ r. ⌜ r ≡ answerAgrees (now (s .entry)) at 0 answeredList (bytesOf (flatVec v) ∷ []) ⌝ }
 {
     floats(s, at, &[v.x, v.y, v.z])
 }

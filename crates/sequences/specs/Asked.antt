@@ -8,11 +8,11 @@ use lib.ListN.{length}
 use Rattle.spacetime.specs.Frames.{positionsOf, rotationsOf, endsOf}
 use Rattle.calls.specs.Answer.{valueIf}
 use Rattle.lent_bytes.specs.Lent.{bytesOf, bytesOfNumbers}
-use Rattle.relaxed_ik.specs.declared.state.State.{State}
-use Rattle.relaxed_ik.specs.State.{linksUsed}
-use Rattle.relaxed_ik.specs.Arms.{posesOf, framesNumberOf, poseNumberOf, manipulabilityNumberOf, manipulabilityValueOf}
-use Rattle.relaxed_ik.specs.Objective.{objectiveNumberOf, objectiveValueOf, gradientNumberOf, gradientSlopesOf, finiteDiffSlopesOf}
-use Rattle.relaxed_ik.specs.OneBlock.{oneBlockNumberOf, recordJointsOf, recordLinksOf, recordPosesOf}
+use Rattle.state_calls.specs.declared.state.State.{State}
+use Rattle.state_calls.specs.State.{linksUsed}
+use Rattle.state_calls.specs.Arms.{posesOf, framesNumberOf, poseNumberOf, manipulabilityNumberOf, manipulabilityValueOf}
+use Rattle.state_calls.specs.Objective.{objectiveNumberOf, objectiveValueOf, gradientNumberOf, gradientSlopesOf, finiteDiffSlopesOf}
+use Rattle.state_calls.specs.OneBlock.{oneBlockNumberOf, recordJointsOf, recordLinksOf, recordPosesOf}
 use Rattle.stored_answers.specs.Stored.{numberAt, listOf}
 use Rattle.stored_answers.specs.Agree.{answerAgrees}
 use Rattle.sequences.specs.Table.{outputs, keptLists}
@@ -115,7 +115,7 @@ keptAgrees st s at =
 abbrev pub changeAgrees : ℕ → State → List ℕ → ℕ → Bool
 changeAgrees c st s at = answerAgrees s at (outcomeAt c st s at .number) 0 []
 
--- 5 to 11, the calls that leave it
+-- 5 to 10, the calls that leave it
 unfoldable pub askedAgrees : ℕ → State → List ℕ → ℕ → Bool
 askedAgrees c st s at =
     cond (eqb c 5) (framesAgree st s at)

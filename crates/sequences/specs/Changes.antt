@@ -4,11 +4,11 @@ use mathlib.Core.List.{List}
 use Prim.Native.Nat.{ℕ}
 use lib.Dec.{eqb}
 use Rattle.lent_bytes.specs.Lent.{numbersIn, floatsIn}
-use Rattle.relaxed_ik.specs.declared.state.State.{State}
-use Rattle.relaxed_ik.specs.declared.state.Outcome.{Outcome}
-use Rattle.relaxed_ik.specs.State.{emptyState}
-use Rattle.relaxed_ik.specs.Load.{loadOf}
-use Rattle.relaxed_ik.specs.Party.{setGoalsOf, resetStateOf, updateStateOf}
+use Rattle.state_calls.specs.declared.state.State.{State}
+use Rattle.state_calls.specs.declared.state.Outcome.{Outcome}
+use Rattle.state_calls.specs.State.{emptyState}
+use Rattle.state_calls.specs.Load.{loadOf}
+use Rattle.state_calls.specs.Party.{setGoalsOf, resetStateOf, updateStateOf}
 use Rattle.stored_answers.specs.Stored.{listOf}
 use Rattle.sequences.specs.Table.{sizesList, codesList, floatsList, limitsList, goalsList}
 use Rattle.sequences.specs.Lists.{jointsAt}

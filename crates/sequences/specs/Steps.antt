@@ -4,8 +4,8 @@ use mathlib.Core.Bool.{Bool}
 use mathlib.Core.List.{List}
 use Prim.Native.Nat.{ℕ, zero, suc, _+_}
 use native.Mathlib.Numerals.{add-one}
-use Rattle.relaxed_ik.specs.declared.state.State.{State}
-use Rattle.relaxed_ik.specs.State.{emptyState}
+use Rattle.state_calls.specs.declared.state.State.{State}
+use Rattle.state_calls.specs.State.{emptyState}
 use Rattle.stored_answers.specs.Stored.{numberAt}
 use Rattle.stored_answers.specs.Records.{endBy, recordBy, casesBy, differBy, damageBy}
 use Rattle.sequences.specs.Table.{listsOf}

@@ -1,10 +1,10 @@
 // The calls that leave the state: each is asked what a record stores, on outputs as long as the stored ones, and its answer is held against the stored one.
 use crate::agree;
 use crate::table;
-use relaxed_ik::arms;
-use relaxed_ik::objective;
-use relaxed_ik::one_block_slopes;
-use relaxed_ik::state::State;
+use state_calls::arms;
+use state_calls::objective;
+use state_calls::one_block_slopes;
+use state_calls::state::State;
 ghost use mathlib.Core.Path.{_≡_};
 ghost use Prim.Native.Nat.{_+_, _≤_, _^_};
 ghost use Rattle.stored_answers.specs.Stored.{listOf};

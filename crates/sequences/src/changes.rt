@@ -1,11 +1,11 @@
 // The calls that change the state: each is asked what a record stores.
 use crate::table;
 use lent_bytes::lent;
-use relaxed_ik::load;
-use relaxed_ik::party;
-use relaxed_ik::state;
-use relaxed_ik::state::Outcome;
-use relaxed_ik::state::State;
+use state_calls::load;
+use state_calls::party;
+use state_calls::state;
+use state_calls::state::Outcome;
+use state_calls::state::State;
 use stored_answers::stored::list;
 ghost use mathlib.Core.Path.{_≡_};
 ghost use Prim.Native.Nat.{_≤_, _^_};

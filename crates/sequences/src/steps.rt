@@ -4,7 +4,7 @@ use crate::asked;
 use crate::changes;
 use crate::table;
 use lent_bytes::lent;
-use relaxed_ik::state::State;
+use state_calls::state::State;
 use stored_answers::stored;
 use stored_answers::stored::list;
 ghost use mathlib.Core.Path.{_≡_};

@@ -1,8 +1,8 @@
 // How many of a call's steps there are, and how many differ.
 use crate::steps;
 use crate::table;
-use relaxed_ik::state;
-use relaxed_ik::state::State;
+use state_calls::state;
+use state_calls::state::State;
 use stored_answers::stored;
 ghost use mathlib.Core.Path.{_≡_};
 ghost use Prim.Native.Nat.{_+_, _≤_, _^_};

@@ -46,6 +46,14 @@ jointOf cs (suc l) = jointOf cs l + jointsOf (getD cs l 0)
 unfoldable pub joints : List ℕ → ℕ
 joints cs = jointOf cs (length cs)
 
+-- the joints of the links from f on, before e
+abbrev pub jointsIn : List ℕ → ℕ → ℕ → ℕ
+jointsIn cs f e = jointOf cs e - jointOf cs f
+
+-- chain c's length: its count of non-fixed links
+unfoldable pub chainLength : List ℕ → List ℕ → ℕ → ℕ
+chainLength ns cs c = jointsIn cs (chainStart ns c) (chainStart ns (c + 1))
+
 -- ---- chains by link
 pub first-zero : (ns : List ℕ) → firstIn ns 0 ≡ true
 unfolding firstIn

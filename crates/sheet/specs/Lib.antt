@@ -1,3 +1,4 @@
 pub mod Code
 pub mod Chain
+pub mod ChainTurn
 pub mod Read

@@ -1,4 +1,4 @@
-// Chains and joints: `sizes` has the links of each chain, without the chain count in front.
+// Chains and joints: `counts` has the links of each chain, without the chain count in front.
 use super::code;
 use super::reader;
 ghost use mathlib.Core.Path.{_≡_};
@@ -8,16 +8,16 @@ ghost use Rattle.sheet.specs.Code.{hasJoint};
 ghost use Rattle.sheet.specs.Chain.{firstIn, endIn, total, jointsOf, jointOf};
 
 // Whether a link is the first of a chain.
-pub fn is_first(sizes: &[u16], link: usize) -> bool
-    ensures { λ r. ⌜ r ≡ firstIn (now (sizes .entry)) link ⌝ }
+pub fn is_first(counts: &[u16], link: usize) -> bool
+    ensures { λ r. ⌜ r ≡ firstIn (now (counts .entry)) link ⌝ }
 {
     let mut k = link;
     let mut c = 0;
-    while c < sizes.len() {
+    while c < counts.len() {
         if k == 0 {
             return true;
         }
-        let n = sizes[c] as usize;
+        let n = counts[c] as usize;
         if k < n {
             return false;
         }
@@ -28,15 +28,15 @@ pub fn is_first(sizes: &[u16], link: usize) -> bool
 }
 
 // The end of the chain of a link.
-pub fn chain_end(sizes: &[u16], link: usize) -> usize
-    requires { ⌜ length (now sizes) ≤ 4 ⌝ }
-    ensures { λ r. ⌜ r ≡ endIn (now (sizes .entry)) link ⌝ }
+pub fn chain_end(counts: &[u16], link: usize) -> usize
+    requires { ⌜ length (now counts) ≤ 4 ⌝ }
+    ensures { λ r. ⌜ r ≡ endIn (now (counts .entry)) link ⌝ }
 {
     let mut k = link;
     let mut s: usize = 0;
     let mut c = 0;
-    while c < sizes.len() {
-        let n = sizes[c] as usize;
+    while c < counts.len() {
+        let n = counts[c] as usize;
         s += n;
         if k < n {
             return s;
@@ -48,14 +48,14 @@ pub fn chain_end(sizes: &[u16], link: usize) -> usize
 }
 
 // The links of all chains.
-pub fn total_links(sizes: &[u16]) -> usize
-    requires { ⌜ length (now sizes) ≤ 4 ⌝ }
-    ensures { λ r. ⌜ r ≡ total (now (sizes .entry)) ⌝ }
+pub fn total_links(counts: &[u16]) -> usize
+    requires { ⌜ length (now counts) ≤ 4 ⌝ }
+    ensures { λ r. ⌜ r ≡ total (now (counts .entry)) ⌝ }
 {
     let mut s: usize = 0;
     let mut c = 0;
-    while c < sizes.len() {
-        s += sizes[c] as usize;
+    while c < counts.len() {
+        s += counts[c] as usize;
         c += 1;
     }
     s

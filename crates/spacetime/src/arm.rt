@@ -206,10 +206,10 @@ pub fn after_link(
 }
 
 // The pose with which a link is met: a chain starts at the origin.
-pub fn start(sizes: &[u16], at: usize, p: Pose) -> Pose
-    ensures { λ r. ⌜ r ≡ startOf (now (sizes .entry)) at p ⌝ }
+pub fn start(counts: &[u16], at: usize, p: Pose) -> Pose
+    ensures { λ r. ⌜ r ≡ startOf (now (counts .entry)) at p ⌝ }
 {
-    if chain::is_first(sizes, at) {
+    if chain::is_first(counts, at) {
         return pose::origin();
     }
     p
@@ -231,10 +231,10 @@ fn put_turns(codes: &[u16], block: &[f64], turns: &mut [f64])
     }
 }
 
-fn start_rotation(sizes: &[u16], at: usize, q: Quat) -> Quat
-    ensures { λ r. ⌜ r ≡ startTurn (now (sizes .entry)) at q ⌝ }
+fn start_rotation(counts: &[u16], at: usize, q: Quat) -> Quat
+    ensures { λ r. ⌜ r ≡ startTurn (now (counts .entry)) at q ⌝ }
 {
-    if chain::is_first(sizes, at) {
+    if chain::is_first(counts, at) {
         return quaternion::identity();
     }
     q
@@ -250,15 +250,15 @@ fn after_turn(codes: &[u16], floats: &[f64], q: Quat, at: usize, t: Quat) -> Qua
 }
 
 // Each link's turn gives way to the rotation after the link: rotations do not wait for positions.
-fn walk_rotations(sizes: &[u16], codes: &[u16], floats: &[f64], turns: &mut [f64])
+fn walk_rotations(counts: &[u16], codes: &[u16], floats: &[f64], turns: &mut [f64])
     requires { ⌜ (7 * length (now codes) ≤ length (now floats)) × (4 * length (now codes) ≤ length (now turns)) × (length (now codes) ≤ 64) ⌝ }
-    ensures { λ _. ⌜ now (turns .exit) ≡ splice (now (turns .entry)) 0 (rotationsBy (now (sizes .entry)) (now (codes .entry)) (now (floats .entry)) (now (turns .entry))) ⌝ }
+    ensures { λ _. ⌜ now (turns .exit) ≡ splice (now (turns .entry)) 0 (rotationsBy (now (counts .entry)) (now (codes .entry)) (now (floats .entry)) (now (turns .entry))) ⌝ }
 {
     let mut q = quaternion::identity();
     let mut at: usize = 0;
     while at < codes.len() {
         let t = floats::get_quat(turns, 4 * at);
-        q = after_turn(codes, floats, start_rotation(sizes, at, q), at, t);
+        q = after_turn(codes, floats, start_rotation(counts, at, q), at, t);
         floats::put_quat(turns, 4 * at, q);
         at += 1;
     }
@@ -291,24 +291,24 @@ fn after_known(
 
 // Walks all links, whose rotations are known.
 fn walk(
-    sizes: &[u16],
+    counts: &[u16],
     codes: &[u16],
     floats: &[f64],
     block: &[f64],
     rotations: &[f64],
     out: &mut [f64],
 )
-    requires { ⌜ Sheet (now sizes) (now codes) (now floats) (now block) ⌝ }
-    requires { ⌜ Rotated (now sizes) (now codes) (now floats) (now block) (now rotations) ⌝ }
+    requires { ⌜ Sheet (now counts) (now codes) (now floats) (now block) ⌝ }
+    requires { ⌜ Rotated (now counts) (now codes) (now floats) (now block) (now rotations) ⌝ }
     requires { ⌜ 7 * length (now codes) ≤ length (now out) ⌝ }
-    ensures { λ _. ⌜ now (out .exit) ≡ splice (now (out .entry)) 0 (framesOf (now (sizes .entry)) (now (codes .entry)) (now (floats .entry)) (now (block .entry))) ⌝ }
+    ensures { λ _. ⌜ now (out .exit) ≡ splice (now (out .entry)) 0 (framesOf (now (counts .entry)) (now (codes .entry)) (now (floats .entry)) (now (block .entry))) ⌝ }
 {
     let mut p = pose::origin();
     let mut joint: usize = 0;
     let mut at: usize = 0;
     while at < codes.len() {
         p = after_known(
-            start(sizes, at, p),
+            start(counts, at, p),
             codes,
             floats,
             block,
@@ -324,18 +324,18 @@ fn walk(
 
 // Walks all links, and writes the pose after each as seven floats.
 pub fn get_frames_immutable(
-    sizes: &[u16],
+    counts: &[u16],
     codes: &[u16],
     floats: &[f64],
     block: &[f64],
     out: &mut [f64],
 )
-    requires { ⌜ Sheet (now sizes) (now codes) (now floats) (now block) ⌝ }
+    requires { ⌜ Sheet (now counts) (now codes) (now floats) (now block) ⌝ }
     requires { ⌜ 7 * length (now codes) ≤ length (now out) ⌝ }
-    ensures { λ _. ⌜ now (out .exit) ≡ splice (now (out .entry)) 0 (framesOf (now (sizes .entry)) (now (codes .entry)) (now (floats .entry)) (now (block .entry))) ⌝ }
+    ensures { λ _. ⌜ now (out .exit) ≡ splice (now (out .entry)) 0 (framesOf (now (counts .entry)) (now (codes .entry)) (now (floats .entry)) (now (block .entry))) ⌝ }
 {
     let mut rotations = [0.0; 256];
     put_turns(codes, block, &mut rotations);
-    walk_rotations(sizes, codes, floats, &mut rotations);
-    walk(sizes, codes, floats, block, &rotations, out);
+    walk_rotations(counts, codes, floats, &mut rotations);
+    walk(counts, codes, floats, block, &rotations, out);
 }

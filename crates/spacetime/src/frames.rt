@@ -54,15 +54,15 @@ fn chain_rotations(poses: &[f64], from: usize, n: usize, out: &mut [f64], at: us
 }
 
 // Positions by 3: L + 1 of each chain.
-pub fn put_positions(sizes: &[u16], poses: &[f64], out: &mut [f64])
-    requires { ⌜ Chains (now sizes) ⌝ }
-    requires { ⌜ (7 * total (now sizes) ≤ length (now poses)) × (3 * (total (now sizes) + length (now sizes)) ≤ length (now out)) ⌝ }
-    ensures { λ _. ⌜ now (out .exit) ≡ splice (now (out .entry)) 0 (positionsOf (now (sizes .entry)) (listPose (now (poses .entry)))) ⌝ }
+pub fn put_positions(counts: &[u16], poses: &[f64], out: &mut [f64])
+    requires { ⌜ Chains (now counts) ⌝ }
+    requires { ⌜ (7 * total (now counts) ≤ length (now poses)) × (3 * (total (now counts) + length (now counts)) ≤ length (now out)) ⌝ }
+    ensures { λ _. ⌜ now (out .exit) ≡ splice (now (out .entry)) 0 (positionsOf (now (counts .entry)) (listPose (now (poses .entry)))) ⌝ }
 {
     let mut from: usize = 0;
     let mut c: usize = 0;
-    while c < sizes.len() {
-        let n = sizes[c] as usize;
+    while c < counts.len() {
+        let n = counts[c] as usize;
         chain_positions(poses, from, n, out, 3 * (from + c));
         from += n;
         c += 1;
@@ -70,15 +70,15 @@ pub fn put_positions(sizes: &[u16], poses: &[f64], out: &mut [f64])
 }
 
 // Rotations by 4: L + 2 of each chain.
-pub fn put_rotations(sizes: &[u16], poses: &[f64], out: &mut [f64])
-    requires { ⌜ Chains (now sizes) ⌝ }
-    requires { ⌜ (7 * total (now sizes) ≤ length (now poses)) × (4 * (total (now sizes) + 2 * length (now sizes)) ≤ length (now out)) ⌝ }
-    ensures { λ _. ⌜ now (out .exit) ≡ splice (now (out .entry)) 0 (rotationsOf (now (sizes .entry)) (listPose (now (poses .entry)))) ⌝ }
+pub fn put_rotations(counts: &[u16], poses: &[f64], out: &mut [f64])
+    requires { ⌜ Chains (now counts) ⌝ }
+    requires { ⌜ (7 * total (now counts) ≤ length (now poses)) × (4 * (total (now counts) + 2 * length (now counts)) ≤ length (now out)) ⌝ }
+    ensures { λ _. ⌜ now (out .exit) ≡ splice (now (out .entry)) 0 (rotationsOf (now (counts .entry)) (listPose (now (poses .entry)))) ⌝ }
 {
     let mut from: usize = 0;
     let mut c: usize = 0;
-    while c < sizes.len() {
-        let n = sizes[c] as usize;
+    while c < counts.len() {
+        let n = counts[c] as usize;
         chain_rotations(poses, from, n, out, 4 * (from + 2 * c));
         from += n;
         c += 1;
@@ -86,15 +86,15 @@ pub fn put_rotations(sizes: &[u16], poses: &[f64], out: &mut [f64])
 }
 
 // End poses by 7, one a chain.
-pub fn put_ends(sizes: &[u16], poses: &[f64], out: &mut [f64])
-    requires { ⌜ Chains (now sizes) ⌝ }
-    requires { ⌜ (7 * total (now sizes) ≤ length (now poses)) × (7 * length (now sizes) ≤ length (now out)) ⌝ }
-    ensures { λ _. ⌜ now (out .exit) ≡ splice (now (out .entry)) 0 (endsOf (now (sizes .entry)) (listPose (now (poses .entry)))) ⌝ }
+pub fn put_ends(counts: &[u16], poses: &[f64], out: &mut [f64])
+    requires { ⌜ Chains (now counts) ⌝ }
+    requires { ⌜ (7 * total (now counts) ≤ length (now poses)) × (7 * length (now counts) ≤ length (now out)) ⌝ }
+    ensures { λ _. ⌜ now (out .exit) ≡ splice (now (out .entry)) 0 (endsOf (now (counts .entry)) (listPose (now (poses .entry)))) ⌝ }
 {
     let mut from: usize = 0;
     let mut c: usize = 0;
-    while c < sizes.len() {
-        from += sizes[c] as usize;
+    while c < counts.len() {
+        from += counts[c] as usize;
         floats::put(out, 7 * c, floats::get(poses, 7 * (from - 1)));
         c += 1;
     }

@@ -60,7 +60,7 @@ pub record Full (ns cs : List ℕ) (a : Apart) : Type 0 where
 unfoldable pub givenApart : List ℕ → List ℕ → Apart → Given
 givenApart ns cs a =
     record {
-      sizes = ns;
+      counts = ns;
       codes = cs;
       weights = take 8 (a .weights);
       limits = take (2 * joints cs) (a .limits);

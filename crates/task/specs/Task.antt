@@ -3,10 +3,9 @@ use mathlib.Core.Path.{_≡_}
 use mathlib.Core.List.{List}
 use Prim.Native.Nat.{ℕ, _+_, _-_, _*_, _≤_}
 use native.Mathlib.Omega.{arith}
-use denote.Ref.{RefT, now}
-use denote.Triple.Both.{Both}
 use lib.Ieee.{Float}
 use lib.ListN.{length, take, drop, length-take, length-drop}
+use Rattle.lists.specs.Lent.{LentList, lent}
 use Rattle.sheet.specs.Chain.{joints}
 
 -- n floats from a place on
@@ -36,9 +35,9 @@ prevState2Of n task = part 124 n task
 abbrev pub taskLength : ℕ
 taskLength = 140
 
--- what the objectives look at beside poses and joints: links per chain, codes, weights, limits, goals, and the three last joint blocks of the history
+-- what the objectives look at beside poses and joints: links per chain, codes, weights, limits, goals, and the three newest joint blocks of the history
 pub record Given : Type 0 where
-  pub sizes : List ℕ
+  pub counts : List ℕ
   pub codes : List ℕ
   pub weights : List Float
   pub limits : List Float
@@ -51,7 +50,7 @@ pub record Given : Type 0 where
 unfoldable pub givenOf : List ℕ → List ℕ → List Float → Given
 givenOf ns cs task =
     record {
-      sizes = ns;
+      counts = ns;
       codes = cs;
       weights = weightsOf task;
       limits = limitsOf (joints cs) task;
@@ -62,16 +61,8 @@ givenOf ns cs task =
     }
 
 -- ---- of a function's parameters
--- a list that a function is lent, as a contract has its name: the list at entry, and X, what is seen of it at exit
-abbrev pub LentList : Type 0 → Type 0 → Type 0
-LentList A X = Both (RefT (List A)) X
-
--- what it held at entry
-abbrev pub lent : {A X : Type 0} → LentList A X → List A
-lent xs = now (xs .entry)
-
 abbrev pub givenIn : {X Y Z : Type 0} → LentList ℕ X → LentList ℕ Y → LentList Float Z → Given
-givenIn sizes codes task = givenOf (lent sizes) (lent codes) (lent task)
+givenIn counts codes task = givenOf (lent counts) (lent codes) (lent task)
 
 -- ---- laws
 module _ (at n : ℕ) (task : List Float) where

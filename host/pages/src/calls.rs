@@ -127,7 +127,7 @@ impl<'a> Sources<'a> {
             Ok(calls)
         };
         Ok(Calls {
-            state: of("relaxed_ik")?,
+            state: of("state_calls")?,
             exported: of("exports")?,
         })
     }

@@ -15,7 +15,7 @@ impl Drop for Small {
 }
 
 const FILES: [(&str, &str); 17] = [
-    ("crates.txt", "ground:\nrelaxed_ik: ground\nexports: ground\n"),
+    ("crates.txt", "ground:\nstate_calls: ground\nexports: ground\n"),
     (
         "crates/ground/src/lib.rt",
         "// The ground.\nghost use mathlib.Core.Path.{_≡_};\nghost use Rattle.ground.specs.Twice.{twice};\n\n\
@@ -44,13 +44,13 @@ const FILES: [(&str, &str); 17] = [
         "crates/ground/must-fail/half.edit",
         "calls: relaxed_ik_load\nfile: src/lib.rt\nold:     x + x\nnew:     x / x\n",
     ),
-    ("crates/relaxed_ik/src/lib.rt", "pub mod state;\nmod inner;\n"),
+    ("crates/state_calls/src/lib.rt", "pub mod state;\nmod inner;\n"),
     (
-        "crates/relaxed_ik/src/state.rt",
+        "crates/state_calls/src/state.rt",
         "ghost use mathlib.Core.Path.{_≡_};\nghost use Rattle.ground.specs.Twice.{twice};\n\n// What is kept.\npub struct State {\n    pub kept: u16,\n}\n\n\
          // Doubles it.\npub fn load(state: State) -> u16\n    ensures number { λ r. ⌜ r ≡ twice (state .kept) ⌝ }\n{\n    ground::double(state.kept)\n}\n",
     ),
-    ("crates/relaxed_ik/src/inner.rt", "pub fn hidden() -> u16\n{\n    1\n}\n"),
+    ("crates/state_calls/src/inner.rt", "pub fn hidden() -> u16\n{\n    1\n}\n"),
     ("crates/exports/src/lib.rt", "pub mod arms;\n"),
     (
         "crates/exports/src/arms.rt",
@@ -179,10 +179,10 @@ fn a_call_has_its_contract_its_numbers_and_its_edits() {
     };
     let load = row("[`load`]");
     for cell in [
-        "[`load`](../crates/relaxed_ik/src/state.rt#L10) | Doubles it. |",
+        "[`load`](../crates/state_calls/src/state.rt#L10) | Doubles it. |",
         "| [0, 3](../crates/ground/specs/Rows.antt#L10) |",
-        "| [number](../crates/relaxed_ik/src/state.rt#L11) |",
-        "| [`State`](../crates/relaxed_ik/src/state.rt#L5), [`twice`](../crates/ground/specs/Twice.antt#L5) |",
+        "| [number](../crates/state_calls/src/state.rt#L11) |",
+        "| [`State`](../crates/state_calls/src/state.rt#L5), [`twice`](../crates/ground/specs/Twice.antt#L5) |",
         "| 2, 5 lines | [declaration](../include/relaxed_ik.h#L2) |",
         "[ground/minus](../crates/ground/must-fail/minus.edit \"nothing but 0\")",
     ] {
@@ -296,7 +296,7 @@ fn a_call_that_asks_something_is_found() {
     let small = Small::new();
     let ensures = "    ensures number";
     let asks = format!("    requires {{ ⌜ twice (state .kept) ≡ 0 ⌝ }}\n{ensures}");
-    small.change("crates/relaxed_ik/src/state.rt", ensures, &asks);
+    small.change("crates/state_calls/src/state.rt", ensures, &asks);
     small.fails("load has a 'requires'", false);
 }
 
@@ -305,7 +305,7 @@ fn a_new_crate_is_taken_in() {
     let small = Small::new();
     small.put(
         "crates.txt",
-        "ground:\nrelaxed_ik: ground\nexports: ground\nreplay: exports io libc\n",
+        "ground:\nstate_calls: ground\nexports: ground\nreplay: exports io libc\n",
     );
     small.put("crates/replay/src/main.rt", "// Runs.\nfn main() {\n}\n");
     small.fails("docs/architecture.svg: out of date", true);

@@ -1,5 +1,5 @@
 -- `value` meets its contract: case by case.
-use Rattle.standins.specs.Num.{no-number}
+use Rattle.standins.specs.Num.{nought-over-nought}
 use borrow.Author.Needs.{needs}
 use Rattle.calls.proofs.answer.value.Statement.{statement}
 use Rattle.calls.proofs.answer.value.Tie as tie
@@ -14,7 +14,7 @@ returns : tie.Need-returns
 returns c = search needs
 
 returns-2 : tie.Need-returns-2
-returns-2 c = rw (c .enum-told .given .1) no-number
+returns-2 c = rw (c .enum-told .given .1) nought-over-nought
 
 pub value-spec : {M : Type 1} → statement M
 value-spec = tie.close (tie.spec enum-known-answer enum-told returns returns-2)

@@ -17,12 +17,12 @@ use Rattle.calls.proofs.frames.frames.Tie as tie
 abbrev S : tie.Else1 → tie.Start
 S c = c .before .before .before .before .before .before .before .before
 
-number : (c : tie.Else1) → framesRefusal (now (S c .args .sizes)) (now (S c .args .codes)) (now (S c .args .block)) (length (now (S c .args .positions))) (length (now (S c .args .rotations))) ≡ 0
+number : (c : tie.Else1) → framesRefusal (now (S c .args .counts)) (now (S c .args .codes)) (now (S c .args .block)) (length (now (S c .args .positions))) (length (now (S c .args .rotations))) ≡ 0
 number c = sym (c .before .frames-refusal .ensures) ∙ c .if1 .left
 
 passed : (c : tie.Else1) → (blockRefusal (now (S c .args .codes)) (now (S c .args .block)) ≡ 0)
-    × (positionsLength (now (S c .args .sizes)) ≤ length (now (S c .args .positions)))
-    × (rotationsLength (now (S c .args .sizes)) ≤ length (now (S c .args .rotations)))
+    × (positionsLength (now (S c .args .counts)) ≤ length (now (S c .args .positions)))
+    × (rotationsLength (now (S c .args .counts)) ≤ length (now (S c .args .rotations)))
 passed c = frames-passed _ _ _ _ _ (number c)
 
 -- the list of poses keeps its length
@@ -54,7 +54,7 @@ put-positions-requires : tie.Need-put-positions-requires
 put-positions-requires c κs =
     let e = c .before .before .before .before .before in
     let s = S e in
-    (s .pre .chains, (omega (arith, s .pre, held (c .before .before .before)), omega (arith, positions-sum (now (s .args .sizes)), passed e .1)))
+    (s .pre .chains, (omega (arith, s .pre, held (c .before .before .before)), omega (arith, positions-sum (now (s .args .counts)), passed e .1)))
 
 slice-aggregate-put-rotations : tie.Need-slice-aggregate-put-rotations
 slice-aggregate-put-rotations c = search needs
@@ -63,7 +63,7 @@ put-rotations-requires : tie.Need-put-rotations-requires
 put-rotations-requires c κs =
     let e = c .before .before .before .before .before .before .before .before .before .before in
     let s = S e in
-    (s .pre .chains, (omega (arith, s .pre, held (c .before .before .before .before .before .before .before .before)), omega (arith, rotations-sum (now (s .args .sizes)), passed e .2)))
+    (s .pre .chains, (omega (arith, s .pre, held (c .before .before .before .before .before .before .before .before)), omega (arith, rotations-sum (now (s .args .counts)), passed e .2)))
 
 same-length : tie.Need-same-length
 same-length c = search needs
@@ -77,8 +77,8 @@ returns-2 c =
     let e = g .before .before in
     let s = S e in
     let a = s .args in
-    let ns = now (a .sizes) in
-    let w = walked ns (now (a .codes)) (now (a .geo)) (now (a .block)) _ _ (s .pre) (omega arith) (g .get-frames-immutable .ensures) in (
+    let ns = now (a .counts) in
+    let w = walked ns (now (a .codes)) (now (a .floats)) (now (a .block)) _ _ (s .pre) (omega arith) (g .get-frames-immutable .ensures) in (
       sym (number e),
       (
         c .before .before .before .before .before .before .before .put-positions .ensures ∙ ap (splice (now (a .positions)) 0) (positions-ext ns _ _ w) ∙ sym (taken 0 _ _ refl),

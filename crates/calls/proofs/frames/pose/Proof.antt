@@ -17,10 +17,10 @@ use Rattle.calls.proofs.frames.pose.Tie as tie
 abbrev S : tie.Else1 → tie.Start
 S c = c .before .before .before .before .before .before .before
 
-number : (c : tie.Else1) → poseRefusal (now (S c .args .sizes)) (now (S c .args .codes)) (now (S c .args .block)) (length (now (S c .args .ends))) ≡ 0
+number : (c : tie.Else1) → poseRefusal (now (S c .args .counts)) (now (S c .args .codes)) (now (S c .args .block)) (length (now (S c .args .ends))) ≡ 0
 number c = sym (c .before .pose-refusal .ensures) ∙ c .if1 .left
 
-passed : (c : tie.Else1) → (blockRefusal (now (S c .args .codes)) (now (S c .args .block)) ≡ 0) × (endsLength (now (S c .args .sizes)) ≤ length (now (S c .args .ends)))
+passed : (c : tie.Else1) → (blockRefusal (now (S c .args .codes)) (now (S c .args .block)) ≡ 0) × (endsLength (now (S c .args .counts)) ≤ length (now (S c .args .ends)))
 passed c = pose-passed _ _ _ _ (number c)
 
 -- the list of poses keeps its length
@@ -59,7 +59,7 @@ returns-2 c =
     let g = c .before .before .before .before .before .before in
     let s = S (g .before .before) in (
       sym (number (g .before .before)),
-      c .before .before .put-ends .ensures ∙ ap (splice (now (s .args .ends)) 0) (ends-ext (now (s .args .sizes)) _ _ (walked _ _ _ _ _ _ (s .pre) (omega arith) (g .get-frames-immutable .ensures)) (s .pre .chains)) ∙ sym (taken 0 _ _ refl),
+      c .before .before .put-ends .ensures ∙ ap (splice (now (s .args .ends)) 0) (ends-ext (now (s .args .counts)) _ _ (walked _ _ _ _ _ _ (s .pre) (omega arith) (g .get-frames-immutable .ensures)) (s .pre .chains)) ∙ sym (taken 0 _ _ refl),
     )
 
 pub pose-spec : {M : Type 1} → statement M

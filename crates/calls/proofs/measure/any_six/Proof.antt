@@ -9,23 +9,23 @@ use lib.ListN.{length, getD}
 use denote.Ref.{now}
 use Rattle.sheet.specs.Chain.{chainStart, jointOf, joint-zero}
 use Rattle.refusals.specs.Range.{every, every-none, every-turn}
-use Rattle.refusals.specs.Turn.{next-link, links-inside, next-joint, joint-grows, joints-here}
+use Rattle.sheet.specs.ChainTurn.{next-link, links-inside, next-joint, joint-grows, length-here}
 use Rattle.calls.specs.Six.{underSix, anySix}
 use borrow.Author.Needs.{needs}
 use Rattle.calls.proofs.measure.any_six.Statement.{statement}
 use Rattle.calls.proofs.measure.any_six.Tie as tie
 
 abbrev Inv-loop : tie.InvT-loop
-Inv-loop sizes codes under₀ link₀ joint₀ c₀ under link joint c = (c ≤ length sizes) × (under ≡ every (underSix sizes codes) c) × (link ≡ chainStart sizes c) × (joint ≡ jointOf codes (chainStart sizes c))
+Inv-loop counts codes under₀ link₀ joint₀ c₀ under link joint c = (c ≤ length counts) × (under ≡ every (underSix counts codes) c) × (link ≡ chainStart counts c) × (joint ≡ jointOf codes (chainStart counts c))
 
 abbrev μ-loop : tie.MeasureT-loop
-μ-loop sizes codes under₀ link₀ joint₀ c₀ under link joint c = length sizes - c
+μ-loop counts codes under₀ link₀ joint₀ c₀ under link joint c = length counts - c
 
 inside : (c : tie.In-loop Inv-loop μ-loop)
-    → c .before .loop .link + getD (now (c .before .before .before .before .args .sizes)) (c .before .loop .c) 0 ≤ length (now (c .before .before .before .before .args .codes))
+    → c .before .loop .link + getD (now (c .before .before .before .before .args .counts)) (c .before .loop .c) 0 ≤ length (now (c .before .before .before .before .args .codes))
 inside c =
     let s = c .before .before .before .before in
-    links-inside (now (s .args .sizes)) (now (s .args .codes)) (c .before .loop .c) (c .before .loop .link) (c .before .loop .inv .2) (c .loop-test .taken) (s .pre .0)
+    links-inside (now (s .args .counts)) (now (s .args .codes)) (c .before .loop .c) (c .before .loop .link) (c .before .loop .inv .2) (c .loop-test .taken) (s .pre .0)
 
 loop-holds : tie.Need-loop-holds Inv-loop μ-loop
 unfolding chainStart
@@ -69,8 +69,8 @@ loop-again c =
     let k = l .loop .c in
     let i = l .loop .inv in (
       omega arith,
-      every-turn _ _ _ _ _ (i .1) (ap (λ (m : ℕ). ltb m 6) (joints-here (now (a .sizes)) (now (a .codes)) k (l .loop .link) (i .2) _ _ (i .3) (n .ensures))) (c .still-under .ensures),
-      next-link (now (a .sizes)) (now (a .codes)) k (l .loop .link) (i .2),
+      every-turn _ _ _ _ _ (i .1) (ap (λ (m : ℕ). ltb m 6) (length-here (now (a .counts)) (now (a .codes)) k (l .loop .link) (i .2) _ _ (i .3) (n .ensures))) (c .still-under .ensures),
+      next-link (now (a .counts)) (now (a .codes)) k (l .loop .link) (i .2),
       next-joint _ _ k (l .loop .link) (i .2) (l .loop .joint) _ (i .3) (n .ensures),
     )
 
@@ -78,8 +78,8 @@ returns : tie.Need-returns Inv-loop μ-loop
 unfolding anySix
 returns c =
     let s = c .before .before .before .before in
-    let e : c .before .loop .c ≡ length (now (s .args .sizes)) = omega arith in
-    ap not (c .before .loop .inv .1 ∙ ap (every (underSix (now (s .args .sizes)) (now (s .args .codes)))) e)
+    let e : c .before .loop .c ≡ length (now (s .args .counts)) = omega arith in
+    ap not (c .before .loop .inv .1 ∙ ap (every (underSix (now (s .args .counts)) (now (s .args .codes)))) e)
 
 pub any-six-spec : {M : Type 1} → statement M
 any-six-spec =

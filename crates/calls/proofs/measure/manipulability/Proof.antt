@@ -78,8 +78,8 @@ returns-3 c =
     let g = c .before .before .before .before in
     let s = S (g .before .before .before .before) in
     let a = s .args in
-    let ns = now (a .sizes) in
-    let w = walked ns (now (a .codes)) (now (a .geo)) (now (a .block)) _ _ (s .pre) (omega arith) (g .get-frames-immutable .ensures) in
+    let ns = now (a .counts) in
+    let w = walked ns (now (a .codes)) (now (a .floats)) (now (a .block)) _ _ (s .pre) (omega arith) (g .get-frames-immutable .ensures) in
     let v = c .get-manipulability-immutable .ensures ∙ manipulability-ext _ _ ns (now (a .codes)) (λ l h. view-list _ _ l ∙ w l h) in
     (sym (passed (g .before .before .before .before)), (v ∙ sym (value-taken 0 _ refl), sym (answer-taken _)))
 

@@ -1,7 +1,7 @@
 -- `relaxed_ik_determinant` meets its contract: by the test of the length, and by what its two calls ensure.
 use mathlib.Core.Path.{ap, _∙_}
 use borrow.Author.Tests.{eq-eqb, ne-eqb}
-use Rattle.standins.specs.Num.{no-number}
+use Rattle.standins.specs.Num.{nought-over-nought}
 use Rattle.geometry.specs.Matrix.{determinantOf}
 use Rattle.exports.specs.Matrices.{determinantIn}
 use borrow.Author.Needs.{needs}
@@ -10,7 +10,7 @@ use Rattle.exports.proofs.matrices.relaxed_ik_determinant.Tie as tie
 
 returns : tie.Need-returns
 unfolding determinantIn
-returns c = rw (ne-eqb _ 288 (c .if1 .taken)) no-number
+returns c = rw (ne-eqb _ 288 (c .if1 .taken)) nought-over-nought
 
 slice-aggregate-floats : tie.Need-slice-aggregate-floats
 slice-aggregate-floats c = search needs

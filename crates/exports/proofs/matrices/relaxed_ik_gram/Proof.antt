@@ -9,7 +9,7 @@ use lib.ListN.{length, getD, take}
 use lib.Seq.{length-take-le}
 use lib.Ieee.{Float, nan}
 use Rattle.lists.specs.Listed.{length-listed}
-use Rattle.standins.specs.Num.{no-number}
+use Rattle.standins.specs.Num.{nought-over-nought}
 use Rattle.geometry.specs.Matrix.{gramOf}
 use Rattle.lent_bytes.specs.Bytes.{floatAt}
 use Rattle.exports.specs.Matrices.{columnsIn, gramEntry}
@@ -19,19 +19,19 @@ use Rattle.exports.proofs.matrices.relaxed_ik_gram.Tie as tie
 
 returns : tie.Need-returns
 unfolding gramEntry
-returns c = rw (ne-eqb _ 0 (c .if1 .taken)) no-number
+returns c = rw (ne-eqb _ 0 (c .if1 .taken)) nought-over-nought
 
 returns-2 : tie.Need-returns-2
 unfolding gramEntry
-returns-2 c = rw (eq-eqb _ 0 (c .before .if1 .left), lt-ltb 768 _ (c .if2 .taken)) no-number
+returns-2 c = rw (eq-eqb _ 0 (c .before .if1 .left), lt-ltb 768 _ (c .if2 .taken)) nought-over-nought
 
 returns-3 : tie.Need-returns-3
 unfolding gramEntry
-returns-3 c = rw (eq-eqb _ 0 (c .before .before .if1 .left), le-ltb 768 _ (c .before .if2 .left), lt-ltb 5 _ (c .if3 .taken)) no-number
+returns-3 c = rw (eq-eqb _ 0 (c .before .before .if1 .left), le-ltb 768 _ (c .before .if2 .left), lt-ltb 5 _ (c .if3 .taken)) nought-over-nought
 
 returns-4 : tie.Need-returns-4
 unfolding gramEntry
-returns-4 c = rw (eq-eqb _ 0 (c .before .before .before .if1 .left), le-ltb 768 _ (c .before .before .if2 .left), le-ltb 5 _ (c .before .if3 .left), lt-ltb 5 _ (c .if4 .taken)) no-number
+returns-4 c = rw (eq-eqb _ 0 (c .before .before .before .if1 .left), le-ltb 768 _ (c .before .before .if2 .left), le-ltb 5 _ (c .before .if3 .left), lt-ltb 5 _ (c .if4 .taken)) nought-over-nought
 
 slice-aggregate-floats : tie.Need-slice-aggregate-floats
 slice-aggregate-floats c = search needs

@@ -1,6 +1,6 @@
 -- `quat_part` meets its contract: each return follows the tests before it.
 use borrow.Author.Tests.{eq-eqb, ne-eqb}
-use Rattle.standins.specs.Num.{no-number}
+use Rattle.standins.specs.Num.{nought-over-nought}
 use Rattle.exports.specs.Parts.{quatPart}
 use Rattle.exports.proofs.shapes.quat_part.Statement.{statement}
 use Rattle.exports.proofs.shapes.quat_part.Tie as tie
@@ -23,7 +23,7 @@ returns-4 c = rw (ne-eqb _ 0 (c .before .before .before .if1 .left), ne-eqb _ 1 
 
 returns-5 : tie.Need-returns-5
 unfolding quatPart
-returns-5 c = rw (ne-eqb _ 0 (c .before .before .before .if1 .left), ne-eqb _ 1 (c .before .before .if2 .left), ne-eqb _ 2 (c .before .if3 .left), ne-eqb _ 3 (c .if4 .left)) no-number
+returns-5 c = rw (ne-eqb _ 0 (c .before .before .before .if1 .left), ne-eqb _ 1 (c .before .before .if2 .left), ne-eqb _ 2 (c .before .if3 .left), ne-eqb _ 3 (c .if4 .left)) nought-over-nought
 
 pub quat-part-spec : {M : Type 1} → statement M
 quat-part-spec = tie.close (tie.spec returns returns-2 returns-3 returns-4 returns-5)

@@ -1,6 +1,6 @@
 -- `relaxed_ik_get_quat` meets its contract: each return follows the tests before it.
 use borrow.Author.Tests.{eq-eqb, ne-eqb}
-use Rattle.standins.specs.Num.{no-number}
+use Rattle.standins.specs.Num.{nought-over-nought}
 use Rattle.exports.specs.Parts.{getQuatPart}
 use borrow.Author.Needs.{needs}
 use Rattle.exports.proofs.shapes.relaxed_ik_get_quat.Statement.{statement}
@@ -38,7 +38,7 @@ returns-3 c = rw (ne-eqb _ 0 (c .before .before .before .before .if1 .left), ne-
 
 returns-4 : tie.Need-returns-4
 unfolding getQuatPart
-returns-4 c = rw (ne-eqb _ 0 (c .before .before .if1 .left), ne-eqb _ 1 (c .before .if2 .left), ne-eqb _ 2 (c .if3 .left)) no-number
+returns-4 c = rw (ne-eqb _ 0 (c .before .before .if1 .left), ne-eqb _ 1 (c .before .if2 .left), ne-eqb _ 2 (c .if3 .left)) nought-over-nought
 
 pub relaxed-ik-get-quat-spec : {M : Type 1} → statement M
 relaxed-ik-get-quat-spec =

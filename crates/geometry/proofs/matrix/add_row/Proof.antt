@@ -1,118 +1,38 @@
 -- `add_row` meets its contract. In the columns before `s` row `r` has gained.
-use mathlib.Core.Path.{_≡_, refl}
-use Prim.Native.Nat.{_-_, _≤_}
+use Prim.Native.Nat.{_-_, _<_}
 use native.Mathlib.Omega.{arith}
-use lib.ListN.{length}
-use denote.Ref.{now}
-use Rattle.geometry.specs.Matrix.{entry, addedOf, addRowOf}
-use Rattle.geometry.proofs.Tables.{columnsOf, columns-none, columns-all, inRow}
-use Rattle.geometry.proofs.Sums.{gain-turn}
+use Rattle.geometry.specs.Matrix.{inRow, addedOf}
+use Rattle.geometry.proofs.Tables.{Rewritten, byColumn, rewritten-start, rewritten-all, row-turn}
 use Rattle.geometry.proofs.matrix.add_row.Statement.{statement}
 use Rattle.geometry.proofs.matrix.add_row.Tie as tie
 
 abbrev Inv-loop : tie.InvT-loop
-Inv-loop m₀ j c r x s₀ m s = (s ≤ 6) × (m ≡ columnsOf s (inRow m₀ (addedOf m₀ j c) r) (entry m₀))
+Inv-loop m₀ j c r x s₀ m s = Rewritten byColumn (inRow m₀ r (addedOf m₀ j c r)) m₀ s m
 
 abbrev μ-loop : tie.MeasureT-loop
 μ-loop m₀ j c r x s₀ m s = 6 - s
 
-mul-x : tie.Need-mul-x Inv-loop μ-loop
-mul-x c = omega arith
-
-add-x : tie.Need-add-x Inv-loop μ-loop
-add-x c = omega arith
-
-mul-x-2 : tie.Need-mul-x-2 Inv-loop μ-loop
-mul-x-2 c = omega arith
-
-shared-slice-read-x : tie.Need-shared-slice-read-x Inv-loop μ-loop
-shared-slice-read-x c = omega arith
-
 loop-holds : tie.Need-loop-holds Inv-loop μ-loop
-loop-holds c =
-    let a = c .before .args in
-    let l : length (now (a .m)) ≡ 36 = omega arith in
-    (omega arith, columns-none (inRow (now (a .m)) (addedOf (now (a .m)) (now (a .j)) (a .c)) (a .r)) (entry (now (a .m))) (now (a .m)) l (λ i j hi hj. refl))
-
-mul-m : tie.Need-mul-m Inv-loop μ-loop
-mul-m c = omega arith
-
-add-m : tie.Need-add-m Inv-loop μ-loop
-add-m c = omega arith
-
-mul-m-2 : tie.Need-mul-m-2 Inv-loop μ-loop
-mul-m-2 c = omega arith
-
-element-copy-out-m : tie.Need-element-copy-out-m Inv-loop μ-loop
-element-copy-out-m c = omega arith
-
-mul-m-3 : tie.Need-mul-m-3 Inv-loop μ-loop
-mul-m-3 c = omega arith
-
-add-m-2 : tie.Need-add-m-2 Inv-loop μ-loop
-add-m-2 c = omega arith
-
-mul-m-4 : tie.Need-mul-m-4 Inv-loop μ-loop
-mul-m-4 c = omega arith
-
-shared-slice-read-m : tie.Need-shared-slice-read-m Inv-loop μ-loop
-shared-slice-read-m c = omega arith
-
-mul-m-5 : tie.Need-mul-m-5 Inv-loop μ-loop
-mul-m-5 c = omega arith
-
-add-m-3 : tie.Need-add-m-3 Inv-loop μ-loop
-add-m-3 c = omega arith
-
-mul-m-6 : tie.Need-mul-m-6 Inv-loop μ-loop
-mul-m-6 c = omega arith
-
-element-write-m : tie.Need-element-write-m Inv-loop μ-loop
-element-write-m c = omega arith
-
-add-s : tie.Need-add-s Inv-loop μ-loop
-add-s c = omega arith
-
-loop-less : tie.Need-loop-less Inv-loop μ-loop
-loop-less c = omega arith
+loop-holds c = rewritten-start (omega arith)
 
 loop-again : tie.Need-loop-again Inv-loop μ-loop
+unfolding addedOf
 loop-again c =
-    let l = c .before .before .before in
-    let a = l .before .before .args in
-    (omega arith, gain-turn (now (a .m)) (now (a .j)) (a .c) (l .loop .m) (a .r) (l .loop .s) (omega arith) (omega arith) (l .loop .inv .1))
+    let z = c .before .before in
+    let y = z .before in
+    let l = y .before .before .before .before in
+    let x = l .before in
+    let a = x .before .before .args in
+    let h : l .loop .s < 6 = omega arith in
+    let w = l .loop .inv in
+    rw (c .put-entry .ensures, z .entry3 .ensures, y .entry2 .ensures, x .entry .ensures)
+    (row-turn _ _ _ w _ (omega arith) h (rw (w .ahead (a .r) (l .loop .s) (omega arith) h (omega arith))))
 
 returns : tie.Need-returns Inv-loop μ-loop
-unfolding addRowOf
-returns c =
-    let l = c .before in
-    let a = l .before .before .args in
-    columns-all (inRow (now (a .m)) (addedOf (now (a .m)) (now (a .j)) (a .c)) (a .r)) (entry (now (a .m))) (l .loop .m) (l .loop .s) (omega arith) (l .loop .inv .1)
+returns c = rewritten-all (c .before .loop .inv) (λ i j hi hj. omega arith)
 
 pub add-row-spec : {M : Type 1} → statement M
 add-row-spec =
     tie.close
-    (tie.spec
-    Inv-loop
-    μ-loop
-    mul-x
-    add-x
-    mul-x-2
-    shared-slice-read-x
-    loop-holds
-    mul-m
-    add-m
-    mul-m-2
-    element-copy-out-m
-    mul-m-3
-    add-m-2
-    mul-m-4
-    shared-slice-read-m
-    mul-m-5
-    add-m-3
-    mul-m-6
-    element-write-m
-    add-s
-    loop-less
-    loop-again
-    returns)
+    (tie.spec Inv-loop μ-loop (λ c κs. omega arith) loop-holds (λ c κs. omega arith) (λ c κs. omega arith)
+    (λ c κs. omega arith) (λ c. omega arith) (λ c. omega arith) loop-again returns)

@@ -20,68 +20,47 @@ loop-holds : tie.Need-loop-holds Inv-loop μ-loop
 unfolding determinantOf
 loop-holds c = (omega arith, omega arith, c .good .0 .1 .0 .1, refl)
 
-pivot-row-requires : tie.Need-pivot-row-requires Inv-loop μ-loop
-pivot-row-requires c κs = omega arith
-
 -- the pivot's row is within the matrix
 pivot : (c : tie.After-pivot-row Inv-loop μ-loop) → c .pivot-row .result < 6
 pivot c =
     let l = c .before .before .before in
     omega (arith, c .pivot-row .ensures, pivot-below (l .loop .a) (l .loop .k) (c .before .before .loop-test .taken))
 
-mul-if1 : tie.Need-mul-if1 Inv-loop μ-loop
-mul-if1 c = omega (arith, pivot c)
-
-add-if1 : tie.Need-add-if1 Inv-loop μ-loop
-add-if1 c = omega (arith, pivot c)
-
-mul-if1-2 : tie.Need-mul-if1-2 Inv-loop μ-loop
-mul-if1-2 c = omega (arith, pivot c)
-
-array-read-if1 : tie.Need-array-read-if1 Inv-loop μ-loop
-array-read-if1 c = omega (arith, pivot c)
+entry-requires : tie.Need-entry-requires Inv-loop μ-loop
+entry-requires c κs = omega (arith, pivot (c .before))
 
 returns : tie.Need-returns Inv-loop μ-loop
 returns c =
-    let w = c .before in
+    let w = c .before .before .before in
     let l = w .before .before .before in
-    steps-zero (l .loop .a) (l .loop .swaps) (l .loop .k) (w .pivot-row .result) _ (w .pivot-row .ensures) (l .loop .inv .3) (w .before .before .loop-test .taken) (c .if1 .taken)
+    steps-zero (l .loop .a) (l .loop .swaps) (l .loop .k) (w .pivot-row .result) _ (w .pivot-row .ensures) (l .loop .inv .3) (w .before .before .loop-test .taken) (rw (c .before .entry .ensures) at (c .if1 .taken))
 
 exchange-requires : tie.Need-exchange-requires Inv-loop μ-loop
 exchange-requires c κs =
-    let w = c .before .before in
+    let w = c .before .before .before .before in
     let l = w .before .before .before in
     (omega arith, pivot w, l .loop .inv .2)
 
 add-swaps : tie.Need-add-swaps Inv-loop μ-loop
 add-swaps c =
-    let w = c .before .before .before in
+    let w = c .before .before .before .before .before in
     let l = w .before .before .before in
     omega (arith, c .exchange .ensures .0, count-most (l .loop .k) (w .pivot-row .result))
 
 eliminate-below-requires : tie.Need-eliminate-below-requires Inv-loop μ-loop
 eliminate-below-requires c κs =
     let x = c .before in
-    let w = x .before .before .before in
+    let w = x .before .before .before .before .before in
     let l = w .before .before .before in
     (omega arith, ap length (x .exchange .ensures .1) ∙ length-swap (l .loop .a) (l .loop .k) (w .pivot-row .result))
-
-add-k : tie.Need-add-k Inv-loop μ-loop
-add-k c = omega arith
-
-loop-less : tie.Need-loop-less Inv-loop μ-loop
-loop-less c = omega arith
 
 loop-again : tie.Need-loop-again Inv-loop μ-loop
 loop-again c =
     let x = c .before .before in
-    let w = x .before .before .before in
+    let w = x .before .before .before .before .before in
     let l = w .before .before .before in
     let h = w .before .before .loop-test .taken in
-    (omega arith, omega (arith, x .exchange .ensures .0, count-most (l .loop .k) (w .pivot-row .result)), ap length (c .eliminate-below .ensures) ∙ length-eliminate _ (l .loop .k), steps-turn (l .loop .a) (l .loop .swaps) (l .loop .k) (w .pivot-row .result) _ (w .pivot-row .ensures) (l .loop .inv .3) (x .exchange .result) _ _ h (x .before .before .if1 .left) (x .exchange .ensures .0) (x .exchange .ensures .1) (c .eliminate-below .ensures))
-
-diagonal-requires : tie.Need-diagonal-requires Inv-loop μ-loop
-diagonal-requires c κs = tt
+    (omega arith, omega (arith, x .exchange .ensures .0, count-most (l .loop .k) (w .pivot-row .result)), ap length (c .eliminate-below .ensures) ∙ length-eliminate _ (l .loop .k), steps-turn (l .loop .a) (l .loop .swaps) (l .loop .k) (w .pivot-row .result) _ (w .pivot-row .ensures) (l .loop .inv .3) (x .exchange .result) _ _ h (rw (x .before .before .before .entry .ensures) at (x .before .before .if1 .left)) (x .exchange .ensures .0) (x .exchange .ensures .1) (c .eliminate-below .ensures))
 
 returns-2 : tie.Need-returns-2 Inv-loop μ-loop
 unfolding signedOf
@@ -102,22 +81,5 @@ returns-3 c =
 pub determinant-spec : {M : Type 1} → statement M
 determinant-spec =
     tie.close
-    (tie.spec
-    Inv-loop
-    μ-loop
-    loop-holds
-    pivot-row-requires
-    mul-if1
-    add-if1
-    mul-if1-2
-    array-read-if1
-    returns
-    exchange-requires
-    add-swaps
-    eliminate-below-requires
-    add-k
-    loop-less
-    loop-again
-    diagonal-requires
-    returns-2
-    returns-3)
+    (tie.spec Inv-loop μ-loop loop-holds (λ c κs. omega arith) (λ c. omega arith) entry-requires returns exchange-requires
+    add-swaps eliminate-below-requires (λ c. omega arith) (λ c. omega arith) loop-again (λ c κs. tt) returns-2 returns-3)

@@ -15,9 +15,6 @@ returns c =
     let a = s .args in
     (sym (rw (eq-eqb (a .k) (a .p) (c .if1 .taken))), swap-none (now (a .m)) (a .k) (a .p) (s .pre .2) (c .if1 .taken))
 
-swap-rows-requires : tie.Need-swap-rows-requires
-swap-rows-requires c κs = search needs
-
 returns-2 : tie.Need-returns-2
 unfolding swapCount
 returns-2 c =
@@ -26,4 +23,4 @@ returns-2 c =
     (sym (rw (ne-eqb (a .k) (a .p) (c .before .before .if1 .left))), c .swap-rows .ensures)
 
 pub exchange-spec : {M : Type 1} → statement M
-exchange-spec = tie.close (tie.spec returns swap-rows-requires returns-2)
+exchange-spec = tie.close (tie.spec returns (λ c κs. search needs) returns-2)

@@ -28,12 +28,6 @@ add-column-requires c κs =
     let a = l .before .before .args in
     (omega arith, ap length (l .loop .inv .1) ∙ length-matrix (sums (now (a .j)) (l .loop .c)))
 
-add-c : tie.Need-add-c Inv-loop μ-loop
-add-c c = omega arith
-
-loop-less : tie.Need-loop-less Inv-loop μ-loop
-loop-less c = omega arith
-
 loop-again : tie.Need-loop-again Inv-loop μ-loop
 loop-again c =
     let l = c .before .before .before in
@@ -51,4 +45,4 @@ returns c =
 pub gram-spec : {M : Type 1} → statement M
 gram-spec =
     tie.close
-    (tie.spec Inv-loop μ-loop loop-holds add-column-requires add-c loop-less loop-again returns)
+    (tie.spec Inv-loop μ-loop loop-holds add-column-requires (λ c. omega arith) (λ c. omega arith) loop-again returns)

@@ -14,20 +14,8 @@ Inv-loop m k p₀ i₀ p i = (k < i) × (i ≤ 6) × (p < 6) × (p ≡ largestOf
 abbrev μ-loop : tie.MeasureT-loop
 μ-loop m k p₀ i₀ p i = 6 - i
 
-add-i : tie.Need-add-i Inv-loop μ-loop
-add-i c = omega arith
-
 loop-holds : tie.Need-loop-holds Inv-loop μ-loop
 loop-holds c = (omega arith, omega arith, c .pre, largest-none (now (c .args .m)) (c .args .k))
-
-larger-requires : tie.Need-larger-requires Inv-loop μ-loop
-larger-requires c κs = omega arith
-
-add-i-2 : tie.Need-add-i-2 Inv-loop μ-loop
-add-i-2 c = omega arith
-
-loop-less : tie.Need-loop-less Inv-loop μ-loop
-loop-less c = omega arith
 
 loop-again : tie.Need-loop-again Inv-loop μ-loop
 loop-again c =
@@ -47,13 +35,5 @@ returns c =
 pub pivot-row-spec : {M : Type 1} → statement M
 pivot-row-spec =
     tie.close
-    (tie.spec
-    Inv-loop
-    μ-loop
-    add-i
-    loop-holds
-    larger-requires
-    add-i-2
-    loop-less
-    loop-again
-    returns)
+    (tie.spec Inv-loop μ-loop (λ c. omega arith) loop-holds (λ c κs. omega arith) (λ c. omega arith) (λ c. omega arith)
+    loop-again returns)

@@ -15,12 +15,12 @@ use Rattle.gradient.proofs.value.value_of.Reads as value-of-reads
 use Rattle.objective_master.proofs.relaxed_ik.relaxed_ik.Reads as relaxed-ik-reads
 
 -- the kinds stand in front of their list
-listed : (c : tie.After-relaxed-ik) → KindsListed (now (c .before .before .before .before .before .before .before .before .args .sizes)) (now (c .before .before .before .before .before .before .before .before .args .codes)) (c .relaxed-ik .last .1 .1 .0) (c .relaxed-ik .result)
+listed : (c : tie.After-relaxed-ik) → KindsListed (now (c .before .before .before .before .before .before .before .before .args .counts)) (now (c .before .before .before .before .before .before .before .before .args .codes)) (c .relaxed-ik .last .1 .1 .0) (c .relaxed-ik .result)
 listed c =
     let s = c .before .before .before .before .before .before .before .before in
     let a = s .args in
     let k = c .relaxed-ik in
-    kinds-listed (now (a .sizes)) (now (a .codes)) (now (a .task)) (now (a .floats)) (now (a .scratch)) (s .pre .0) _ _ _ (k .kept .1 .1 .0) (k .ensures .0) (k .ensures .1)
+    kinds-listed (now (a .counts)) (now (a .codes)) (now (a .task)) (now (a .floats)) (now (a .scratch)) (s .pre .0) _ _ _ (k .kept .1 .1 .0) (k .ensures .0) (k .ensures .1)
 
 slice-aggregate-relaxed-ik : tie.Need-slice-aggregate-relaxed-ik
 slice-aggregate-relaxed-ik c = search needs
@@ -29,7 +29,7 @@ relaxed-ik-requires : tie.Need-relaxed-ik-requires
 relaxed-ik-requires c κs =
     let s = c .before .before .before .before .before .before .before in
     let a = s .args in
-    let ns = now (a .sizes) in
+    let ns = now (a .counts) in
     let cs = now (a .codes) in
     let T = now (a .task) in
     let gs = now (a .floats) in
@@ -77,7 +77,7 @@ put-gradient-requires c κs =
     let v = c .before .before .before .before .before .before .before .before .value-of in
     let s = c .before .before .before .before .before .before .before .before .before .before .before .before .before .before .before .before .before .before .before .before .before .before in
     let a = s .args in
-    let ns = now (a .sizes) in
+    let ns = now (a .counts) in
     let cs = now (a .codes) in
     let T = now (a .task) in
     let gs = now (a .floats) in

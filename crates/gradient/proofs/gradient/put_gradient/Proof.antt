@@ -16,12 +16,12 @@ use Rattle.gradient.proofs.gradient.put_gradient.Tie as tie
 use Rattle.gradient.proofs.gradient.slope.Reads as slope-reads
 
 abbrev Inv-loop : tie.InvT-loop
-Inv-loop rule sizes codes floats task scratch₀ kinds f-0 f-0s poses₀ f-hs₀ slopes₀ joint₀ scratch poses f-hs slopes joint =
+Inv-loop rule counts codes floats task scratch₀ kinds f-0 f-0s poses₀ f-hs₀ slopes₀ joint₀ scratch poses f-hs slopes joint =
     (joint ≤ length scratch₀) × (scratch ≡ scratch₀) × (length poses ≡ length poses₀) × (length f-hs ≡ length f-hs₀) × (length slopes ≡ length slopes₀)
-    × (slopes ≡ splice slopes₀ 0 (listed (slopeAt rule (givenOf sizes codes task) floats scratch₀) joint))
+    × (slopes ≡ splice slopes₀ 0 (listed (slopeAt rule (givenOf counts codes task) floats scratch₀) joint))
 
 abbrev μ-loop : tie.MeasureT-loop
-μ-loop rule sizes codes floats task scratch₀ kinds f-0 f-0s poses₀ f-hs₀ slopes₀ joint₀ scratch poses f-hs slopes joint = length scratch₀ - joint
+μ-loop rule counts codes floats task scratch₀ kinds f-0 f-0s poses₀ f-hs₀ slopes₀ joint₀ scratch poses f-hs slopes joint = length scratch₀ - joint
 
 loop-holds : tie.Need-loop-holds Inv-loop μ-loop
 loop-holds c = (omega arith, refl, refl, refl, refl, listed-none (slopeAt _ _ _ _) _)
@@ -31,7 +31,7 @@ slope-requires c κs =
     let l = c .before .before .before .before .loop in
     let s = c .before .before .before .before .before .before .before .before .before .before .before .before .before .before .before in
     let a = s .args in
-    let ns = now (a .sizes) in
+    let ns = now (a .counts) in
     let cs = now (a .codes) in
     let T = now (a .task) in
     let gs = now (a .floats) in
@@ -68,7 +68,7 @@ loop-again c =
     let l = c .before .before .before .before .before .before .before .before .before .before .before .loop in
     let s = c .before .before .before .before .before .before .before .before .before .before .before .before .before .before .before .before .before .before .before .before .before .before in
     let a = s .args in
-    let ns = now (a .sizes) in
+    let ns = now (a .counts) in
     let cs = now (a .codes) in
     let T = now (a .task) in
     let gs = now (a .floats) in
@@ -103,7 +103,7 @@ returns c =
     let l = c .before .loop in
     let s = c .before .before .before .before .before .before .before .before .before .before .before .before in
     let a = s .args in
-    let ns = now (a .sizes) in
+    let ns = now (a .counts) in
     let cs = now (a .codes) in
     let T = now (a .task) in
     let gs = now (a .floats) in

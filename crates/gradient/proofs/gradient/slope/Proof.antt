@@ -39,7 +39,7 @@ unfolding raisedBy
 losses-of-requires c κs =
     let s = c .before .before .before .before .before .before .before .before .before .before .before .before .before .before in
     let a = s .args in
-    let ns = now (a .sizes) in
+    let ns = now (a .counts) in
     let cs = now (a .codes) in
     let T = now (a .task) in
     let gs = now (a .floats) in
@@ -74,7 +74,7 @@ unfolding raisedBy givenOf
 returns c =
     let s = c .before .before .before .before .before .before .before .before .before .before .before .before .before .before .before .before .before .before .before .before .before .before .before .before in
     let a = s .args in
-    let ns = now (a .sizes) in
+    let ns = now (a .counts) in
     let cs = now (a .codes) in
     let T = now (a .task) in
     let gs = now (a .floats) in

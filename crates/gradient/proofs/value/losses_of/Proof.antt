@@ -5,7 +5,7 @@ use denote.Ref.{now}
 use lib.ListN.{length}
 use Rattle.lists.specs.Splice.{splice}
 use Rattle.manipulability.specs.View.{viewOf}
-use Rattle.gradient.specs.Ready.{lent-whole, standing-whole, losses-walked}
+use Rattle.gradient.specs.Ready.{lent-whole, cached-whole, losses-walked}
 use borrow.Author.Needs.{needs}
 use Rattle.gradient.proofs.value.losses_of.Statement.{statement}
 use Rattle.gradient.proofs.value.losses_of.Tie as tie
@@ -20,14 +20,14 @@ put-losses-requires c κs =
     let f = c .before .before .before .before .get-frames-immutable in
     let s = c .before .before .before .before .before .before .before .before .before .before .before .before .before in
     let a = s .args in
-    let ns = now (a .sizes) in
+    let ns = now (a .counts) in
     let cs = now (a .codes) in
     let T = now (a .task) in
     let gs = now (a .floats) in
     let x = now (a .x) in
     let ps = f .last .1 .1 .1 .1 .0 in (
       lent-whole ns cs T gs x (s .pre .0) ps (omega (arith, s .pre .1, f .kept .1 .1 .1 .1 .0)),
-      standing-whole ns cs T gs x (s .pre .0) (viewOf ps ps 0 (length cs)) (now (a .out)) (s .pre .1 .1),
+      cached-whole ns cs T gs x (s .pre .0) (viewOf ps ps 0 (length cs)) (now (a .out)) (s .pre .1 .1),
     )
 
 same-length : tie.Need-same-length
@@ -41,7 +41,7 @@ returns c =
     let f = c .before .before .before .before .before .before .before .get-frames-immutable in
     let s = c .before .before .before .before .before .before .before .before .before .before .before .before .before .before .before .before in
     let a = s .args in
-    let ns = now (a .sizes) in
+    let ns = now (a .counts) in
     let cs = now (a .codes) in
     let T = now (a .task) in
     let gs = now (a .floats) in

@@ -10,12 +10,12 @@ scaled-requires c κs = search needs
 exp-requires : tie.Need-exp-requires
 exp-requires c κs = search needs
 
-wall-requires : tie.Need-wall-requires
-wall-requires c κs = search needs
+bounds-penalty-requires : tie.Need-bounds-penalty-requires
+bounds-penalty-requires c κs = search needs
 
 returns : tie.Need-returns
 unfolding swampGrooveLoss
-returns c = rw (c .wall .ensures, c .before .exp .ensures, c .before .before .scaled .ensures)
+returns c = rw (c .bounds-penalty .ensures, c .before .exp .ensures, c .before .before .scaled .ensures)
 
 pub swamp-groove-loss-spec : {M : Type 1} → statement M
-swamp-groove-loss-spec = tie.close (tie.spec scaled-requires exp-requires wall-requires returns)
+swamp-groove-loss-spec = tie.close (tie.spec scaled-requires exp-requires bounds-penalty-requires returns)

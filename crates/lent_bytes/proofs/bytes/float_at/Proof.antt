@@ -3,7 +3,7 @@ use mathlib.Core.Path.{ap, _∙_}
 use borrow.Author.Needs.{needs}
 use borrow.Author.Tests.{lt-ltb, le-ltb}
 use lib.Ieee.{binary64, ofBits}
-use Rattle.standins.specs.Num.{no-number}
+use Rattle.standins.specs.Num.{nought-over-nought}
 use Rattle.lent_bytes.specs.Bytes.{floatAt}
 use Rattle.lent_bytes.proofs.bytes.float_at.Statement.{statement}
 use Rattle.lent_bytes.proofs.bytes.float_at.Tie as tie
@@ -16,7 +16,7 @@ add-if1 c = search needs
 
 returns : tie.Need-returns
 unfolding floatAt
-returns c = rw (lt-ltb _ _ (c .if1 .taken)) no-number
+returns c = rw (lt-ltb _ _ (c .if1 .taken)) nought-over-nought
 
 mul-word-at : tie.Need-mul-word-at
 mul-word-at c = search needs

@@ -6,7 +6,8 @@ use denote.Ref.{now}
 use lib.ListN.{length}
 use Rattle.geometry.specs.declared.pose.Pose.{Pose}
 use Rattle.manipulability.specs.View.{viewOf}
-use Rattle.manipulability.specs.Jacobian.{Filling, fillingOf, jointsIn, afterOf, jacobianOf, start-made, start-length, axes-all, after-made, column-room}
+use Rattle.sheet.specs.Chain.{jointsIn}
+use Rattle.manipulability.specs.Jacobian.{Filling, fillingOf, afterOf, jacobianOf, start-made, start-length, axes-all, after-made, column-room}
 use Rattle.manipulability.proofs.jacobian.columns.Statement.{statement}
 use Rattle.manipulability.proofs.jacobian.columns.Tie as tie
 

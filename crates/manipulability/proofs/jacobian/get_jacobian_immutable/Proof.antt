@@ -5,7 +5,8 @@ use native.Mathlib.Omega.{arith}
 use denote.Ref.{now}
 use lib.ListN.{length, take}
 use Rattle.lists.specs.Listed.{listed}
-use Rattle.manipulability.specs.Jacobian.{jointsIn, axesOf, unitOf, axes-all, start-is}
+use Rattle.sheet.specs.Chain.{jointsIn}
+use Rattle.manipulability.specs.Jacobian.{axesOf, unitOf, axes-all, start-is}
 use borrow.Author.Needs.{needs}
 use Rattle.manipulability.proofs.jacobian.get_jacobian_immutable.Statement.{statement}
 use Rattle.manipulability.proofs.jacobian.get_jacobian_immutable.Tie as tie

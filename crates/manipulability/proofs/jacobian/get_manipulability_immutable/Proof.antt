@@ -9,8 +9,8 @@ use borrow.Author.Tests.{lt-ltb, le-ltb}
 use Rattle.root.specs.Root.{rootOf}
 use Rattle.standins.specs.Cut.{cutOf}
 use Rattle.geometry.specs.Matrix.{gramOf, determinantOf}
-use Rattle.sheet.specs.Chain.{joint-mono}
-use Rattle.manipulability.specs.Jacobian.{jointsIn, joint-order, manipulabilityIn}
+use Rattle.sheet.specs.Chain.{joint-mono, jointsIn}
+use Rattle.manipulability.specs.Jacobian.{joint-order, manipulabilityIn}
 use borrow.Author.Needs.{needs}
 use Rattle.manipulability.proofs.jacobian.get_manipulability_immutable.Statement.{statement}
 use Rattle.manipulability.proofs.jacobian.get_manipulability_immutable.Tie as tie

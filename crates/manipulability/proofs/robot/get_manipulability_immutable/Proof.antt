@@ -11,17 +11,17 @@ use Rattle.manipulability.proofs.robot.get_manipulability_immutable.Sta
 use Rattle.manipulability.proofs.robot.get_manipulability_immutable.Tie as tie
 
 abbrev Inv-loop : tie.InvT-loop
-Inv-loop sizes codes base tail from to out₀ l₀ c₀ out l c =
-    (c ≤ length sizes) × (l ≡ chainStart sizes c) × (out ≡ manipulabilityTo (viewOf base tail from to) sizes codes c)
+Inv-loop counts codes base tail from to out₀ l₀ c₀ out l c =
+    (c ≤ length counts) × (l ≡ chainStart counts c) × (out ≡ manipulabilityTo (viewOf base tail from to) counts codes c)
 
 abbrev μ-loop : tie.MeasureT-loop
-μ-loop sizes codes base tail from to out₀ l₀ c₀ out l c = length sizes - c
+μ-loop counts codes base tail from to out₀ l₀ c₀ out l c = length counts - c
 
 abbrev S : tie.After-shared-slice-known5 Inv-loop μ-loop → tie.Start Inv-loop μ-loop
 S c = c .before .before .before .before .before .before .before
 
-part : (c : tie.After-shared-slice-known5 Inv-loop μ-loop) → Part (now (S c .args .codes)) (c .before .before .loop .l) (c .before .before .loop .l + getD (now (S c .args .sizes)) (c .before .before .loop .c) 0)
-part c = chain-part (now (S c .args .sizes)) (now (S c .args .codes)) (c .before .before .loop .c) (c .before .before .loop .l) (S c .pre .0) (omega arith) (c .before .before .loop .inv .1)
+part : (c : tie.After-shared-slice-known5 Inv-loop μ-loop) → Part (now (S c .args .codes)) (c .before .before .loop .l) (c .before .before .loop .l + getD (now (S c .args .counts)) (c .before .before .loop .c) 0)
+part c = chain-part (now (S c .args .counts)) (now (S c .args .codes)) (c .before .before .loop .c) (c .before .before .loop .l) (S c .pre .0) (omega arith) (c .before .before .loop .inv .1)
 
 loop-holds : tie.Need-loop-holds Inv-loop μ-loop
 unfolding chainStart manipulabilityTo
@@ -54,7 +54,7 @@ loop-again c =
     let k = c .before in
     let l = k .before .before in
     let a = l .before .before .before .before .before .args in
-    let ns = now (a .sizes) in
+    let ns = now (a .counts) in
     let i = l .loop .inv in (
       omega arith,
       ap (λ (x : ℕ). x + getD ns (l .loop .c) 0) (i .1) ∙ sym (chain-start-next ns (l .loop .c)),
@@ -66,8 +66,8 @@ unfolding manipulabilityOf
 returns c =
     let l = c .before in
     let a = l .before .before .before .before .before .args in
-    let e : l .loop .c ≡ length (now (a .sizes)) = omega arith in
-    l .loop .inv .2 ∙ ap (manipulabilityTo (viewOf (now (a .base)) (now (a .tail)) (a .from) (a .to)) (now (a .sizes)) (now (a .codes))) e
+    let e : l .loop .c ≡ length (now (a .counts)) = omega arith in
+    l .loop .inv .2 ∙ ap (manipulabilityTo (viewOf (now (a .base)) (now (a .tail)) (a .from) (a .to)) (now (a .counts)) (now (a .codes))) e
 
 pub get-manipulability-immutable-spec : {M : Type 1} → statement M
 get-manipulability-immutable-spec =

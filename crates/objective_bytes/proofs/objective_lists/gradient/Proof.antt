@@ -39,7 +39,7 @@ slice-aggregate-slopes-on-2 : tie.Need-slice-aggregate-slopes-on-2
 slice-aggregate-slopes-on-2 c = search needs
 
 slopes-on-requires : tie.Need-slopes-on-requires
-slopes-on-requires c κs = (fitted (c .before .before) .aimed, refl, refl)
+slopes-on-requires c κs = (fitted (c .before .before) .accepted, refl, refl)
 
 slice-aggregate-put-answers : tie.Need-slice-aggregate-put-answers
 slice-aggregate-put-answers c = search needs

@@ -27,14 +27,14 @@ number : (c : tie.After-first-of) → c .first-of .result ≡ objectiveNumber (s
 unfolding objectiveNumber
 number c =
     c .first-of .ensures
-    ∙ same-two firstOf (c .before .before .before .aimed-number .ensures) (c .before .room-refusal .ensures ∙ ap (roomRefusal 1) (c .before .before .room .ensures))
+    ∙ same-two firstOf (c .before .before .before .task-number .ensures) (c .before .room-refusal .ensures ∙ ap (roomRefusal 1) (c .before .before .room .ensures))
 
 -- what an accepted call knows: 1 to 8 are passed, and the output has room
-passed : (c : tie.Else1) → (c .before .before .before .before .aimed-number .result ≡ 0) × (c .before .before .room-refusal .result ≡ 0)
+passed : (c : tie.Else1) → (c .before .before .before .before .task-number .result ≡ 0) × (c .before .before .room-refusal .result ≡ 0)
 passed c = first-none _ _ (sym (c .before .first-of .ensures) ∙ c .if1 .left)
 
-aimed-number-requires : tie.Need-aimed-number-requires
-aimed-number-requires c κs = search needs
+task-number-requires : tie.Need-task-number-requires
+task-number-requires c κs = search needs
 
 room-requires : tie.Need-room-requires
 room-requires c κs = search needs
@@ -49,7 +49,7 @@ returns : tie.Need-returns
 returns c = (number (c .before), sym (refused (c .before .first-of .result) _ _ (c .if1 .taken)))
 
 value-on-requires : tie.Need-value-on-requires
-value-on-requires c κs = sym (c .before .before .before .before .aimed-number .ensures) ∙ passed c .0
+value-on-requires c κs = sym (c .before .before .before .before .task-number .ensures) ∙ passed c .0
 
 slice-aggregate-put-floats : tie.Need-slice-aggregate-put-floats
 slice-aggregate-put-floats c = search needs
@@ -74,7 +74,7 @@ pub objective-spec : {M : Type 1} → statement M
 objective-spec =
     tie.close
     (tie.spec
-    aimed-number-requires
+    task-number-requires
     room-requires
     room-refusal-requires
     first-of-requires

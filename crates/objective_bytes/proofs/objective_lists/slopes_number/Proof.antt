@@ -8,8 +8,8 @@ use borrow.Author.Needs.{needs}
 use Rattle.objective_bytes.proofs.objective_lists.slopes_number.Statement.{statement}
 use Rattle.objective_bytes.proofs.objective_lists.slopes_number.Tie as tie
 
-aimed-number-requires : tie.Need-aimed-number-requires
-aimed-number-requires c κs = search needs
+task-number-requires : tie.Need-task-number-requires
+task-number-requires c κs = search needs
 
 block-length-requires : tie.Need-block-length-requires
 block-length-requires c κs = search needs
@@ -49,13 +49,13 @@ returns c =
     let second = c .before .before .before .before .before .room-refusal2 .ensures ∙ ap (roomRefusal 1) (c .before .before .before .before .before .before .room2 .ensures) in
     let third = c .before .before .before .room-refusal3 .ensures ∙ same-two roomRefusal n (c .before .before .before .before .room3 .ensures) in
     c .first-of3 .ensures
-    ∙ same-two firstOf (c .before .before .before .before .before .before .before .before .before .before .aimed-number .ensures) (c .before .first-of2 .ensures ∙ same-two firstOf first (c .before .before .first-of .ensures ∙ same-two firstOf second third))
+    ∙ same-two firstOf (c .before .before .before .before .before .before .before .before .before .before .task-number .ensures) (c .before .first-of2 .ensures ∙ same-two firstOf first (c .before .before .first-of .ensures ∙ same-two firstOf second third))
 
 pub slopes-number-spec : {M : Type 1} → statement M
 slopes-number-spec =
     tie.close
     (tie.spec
-    aimed-number-requires
+    task-number-requires
     block-length-requires
     room-requires
     room-refusal-requires

@@ -5,9 +5,10 @@ use native.Mathlib.Omega.{arith}
 use denote.Ref.{now}
 use lib.ListN.{length, getD}
 use Rattle.lists.specs.Runs.{runs, runs-none}
-use Rattle.sheet.specs.Chain.{chainStart, chain-start-next, jointOf, joint-zero, joint-mono, joint-last}
+use Rattle.sheet.specs.Chain.{chainStart, chain-start-next, jointOf, joint-zero, joint-mono, joint-last, chainLength}
+use Rattle.sheet.specs.ChainTurn.{length-here}
 use Rattle.manipulability.specs.Jacobian.{Part, chain-part}
-use Rattle.self_collision.specs.Pairs.{chainPairs, chainLength, chainLengths, count-more, length-made, chain-pairs}
+use Rattle.self_collision.specs.Pairs.{chainPairs, firstArm, chainLengths, count-more, chain-count}
 use Rattle.objective_master.specs.Count.{count-is}
 use Rattle.objective_master.proofs.count.objective_count.Statement.{statement}
 use Rattle.objective_master.proofs.count.objective_count.Tie as tie
@@ -15,22 +16,22 @@ use Rattle.objective_master.proofs.count.pair_count.Reads as pair-count
 use Rattle.sheet.proofs.chain.joint_number.Reads as joint-number-reads
 
 abbrev Inv-loop : tie.InvT-loop
-Inv-loop sizes codes s₀ l₀ joint₀ c₀ s l joint c =
-    (c ≤ length sizes) × (l ≡ chainStart sizes c) × (joint ≡ jointOf codes l) × (joint ≤ 16)
-    × (s ≡ length (runs (chainPairs (chainLengths sizes codes)) 0 c)) × (s ≤ 256 * c)
+Inv-loop counts codes s₀ l₀ joint₀ c₀ s l joint c =
+    (c ≤ length counts) × (l ≡ chainStart counts c) × (joint ≡ jointOf codes l) × (joint ≤ 16)
+    × (s ≡ length (runs (chainPairs firstArm (chainLengths counts codes)) 0 c)) × (s ≤ 256 * c)
 
 abbrev μ-loop : tie.MeasureT-loop
-μ-loop sizes codes s₀ l₀ joint₀ c₀ s l joint c = length sizes - c
+μ-loop counts codes s₀ l₀ joint₀ c₀ s l joint c = length counts - c
 
 abbrev S : tie.At-loop Inv-loop μ-loop → tie.Start Inv-loop μ-loop
 S l = l .before .before .before
 
 -- the chain of a turn is a part of the sheet
-part : (d : tie.In-loop Inv-loop μ-loop) → Part (now (S (d .before) .args .codes)) (d .before .loop .l) (d .before .loop .l + getD (now (S (d .before) .args .sizes)) (d .before .loop .c) 0)
+part : (d : tie.In-loop Inv-loop μ-loop) → Part (now (S (d .before) .args .codes)) (d .before .loop .l) (d .before .loop .l + getD (now (S (d .before) .args .counts)) (d .before .loop .c) 0)
 part d =
     let l = d .before in
     let s = S l in
-    chain-part (now (s .args .sizes)) (now (s .args .codes)) (l .loop .c) (l .loop .l) (s .pre .0) (omega arith) (l .loop .inv .1)
+    chain-part (now (s .args .counts)) (now (s .args .codes)) (l .loop .c) (l .loop .l) (s .pre .0) (omega arith) (l .loop .inv .1)
 
 -- with the joints of all chains
 few : (c : tie.After-joint-number Inv-loop μ-loop) → c .joint-number .result ≤ 16
@@ -39,13 +40,13 @@ few c =
     let s = S l in
     let cs = now (s .args .codes) in
     let w = part (c .before .before) .within in
-    omega (arith, c .joint-number .ensures, joint-mono cs (l .loop .l + getD (now (s .args .sizes)) (l .loop .c) 0) (length cs) w, joint-last cs, s .pre .0 .few)
+    omega (arith, c .joint-number .ensures, joint-mono cs (l .loop .l + getD (now (s .args .counts)) (l .loop .c) 0) (length cs) w, joint-last cs, s .pre .0 .few)
 
 loop-holds : tie.Need-loop-holds Inv-loop μ-loop
 unfolding chainStart
 loop-holds c =
     let a = c .before .before .args in
-    (omega arith, refl, sym (joint-zero _), omega arith, sym (ap length (runs-none (chainPairs (chainLengths (now (a .sizes)) (now (a .codes)))) 0)), omega arith)
+    (omega arith, refl, sym (joint-zero _), omega arith, sym (ap length (runs-none (chainPairs firstArm (chainLengths (now (a .counts)) (now (a .codes)))) 0)), omega arith)
 
 mul-end : tie.Need-mul-end Inv-loop μ-loop
 mul-end c = omega arith
@@ -66,7 +67,7 @@ sub-pair-count : tie.Need-sub-pair-count Inv-loop μ-loop
 sub-pair-count c =
     let l = c .before .before .before in
     let a = S l .args in
-    omega (arith, l .loop .inv .2, c .joint-number .ensures, joint-mono (now (a .codes)) (l .loop .l) (l .loop .l + getD (now (a .sizes)) (l .loop .c) 0) (omega arith))
+    omega (arith, l .loop .inv .2, c .joint-number .ensures, joint-mono (now (a .codes)) (l .loop .l) (l .loop .l + getD (now (a .counts)) (l .loop .c) 0) (omega arith))
 
 pair-count-requires : tie.Need-pair-count-requires Inv-loop μ-loop
 pair-count-requires c κs = omega (arith, few c)
@@ -85,18 +86,18 @@ loop-again c =
     let j = c .before in
     let l = j .before .before .before in
     let s = S l in
-    let ns = now (s .args .sizes) in
+    let ns = now (s .args .counts) in
     let cs = now (s .args .codes) in
     let k = l .loop .c in
     let i = l .loop .inv in
     let h : k < length ns = omega (arith, j .before .before) in
     let n : ℕ = j .joint-number .result - l .loop .joint in
-    let e : n ≡ chainLength ns cs k = length-made ns cs k h (l .loop .l) (l .loop .joint) (j .joint-number .result) (i .1) (i .2) (j .joint-number .ensures) in (
+    let e : n ≡ chainLength ns cs k = length-here ns cs k (l .loop .l) (i .1) (l .loop .joint) (j .joint-number .result) (i .2 ∙ ap (jointOf cs) (i .1)) (j .joint-number .ensures) in (
       omega arith,
       ap (λ (m : ℕ). m + getD ns k 0) (i .1) ∙ sym (chain-start-next ns k),
       j .joint-number .ensures,
       few j,
-      omega (arith, c .pair-count .ensures .0, i .4, count-more (chainPairs (chainLengths ns cs)) k, ap length (chain-pairs ns cs k h n e)),
+      omega (arith, c .pair-count .ensures .0, i .4, count-more (chainPairs firstArm (chainLengths ns cs)) k, chain-count ns cs k h firstArm n e),
       omega (arith, c .pair-count .ensures .1, i .5),
     )
 
@@ -116,11 +117,11 @@ returns : tie.Need-returns Inv-loop μ-loop
 returns c =
     let l = c .before in
     let s = S l in
-    let ns = now (s .args .sizes) in
+    let ns = now (s .args .counts) in
     let cs = now (s .args .codes) in
     let i = l .loop .inv in
     let e : l .loop .c ≡ length ns = omega arith in
-    count-is ns cs (l .loop .joint) (l .loop .s) (s .pre .0 .whole) (i .2 ∙ ap (jointOf cs) (i .1 ∙ ap (chainStart ns) e)) (i .4 ∙ ap (λ (k : ℕ). length (runs (chainPairs (chainLengths ns cs)) 0 k)) e)
+    count-is ns cs (l .loop .joint) (l .loop .s) (s .pre .0 .whole) (i .2 ∙ ap (jointOf cs) (i .1 ∙ ap (chainStart ns) e)) (i .4 ∙ ap (λ (k : ℕ). length (runs (chainPairs firstArm (chainLengths ns cs)) 0 k)) e)
 
 pub objective-count-spec : {M : Type 1} → statement M
 objective-count-spec =

@@ -1,22 +1,22 @@
 -- `pair_count` meets its contract: turn after turn one row more.
-use mathlib.Core.Path.{_≡_, sym, ap, _∙_}
-use Prim.Native.Nat.{ℕ, _-_, _*_, _≤_}
+use mathlib.Core.Path.{_≡_, ap}
+use Prim.Native.Nat.{_+_, _-_, _*_, _≤_}
 use native.Mathlib.Omega.{arith}
-use lib.ListN.{length}
-use Rattle.lists.specs.Runs.{runs, runs-none}
-use Rattle.self_collision.specs.Pairs.{pairsFrom, pairsOf}
-use Rattle.objective_master.specs.Count.{rows-more}
+use Rattle.self_collision.specs.Pairs.{triangle, triangle-less}
 use Rattle.objective_master.proofs.count.pair_count.Statement.{statement}
 use Rattle.objective_master.proofs.count.pair_count.Tie as tie
 
 abbrev Inv-loop : tie.InvT-loop
-Inv-loop n s₀ j₀ s j = (j ≤ n - 2) × (s ≡ length (runs (pairsFrom n) 0 j)) × (s ≤ 16 * j)
+Inv-loop n s₀ j₀ s j = (j ≤ n - 2) × (s + triangle (n - 2 - j) ≡ triangle (n - 2)) × (s ≤ 16 * j)
 
 abbrev μ-loop : tie.MeasureT-loop
 μ-loop n s₀ j₀ s j = n - j
 
 loop-holds : tie.Need-loop-holds Inv-loop μ-loop
-loop-holds c = (omega arith, sym (ap length (runs-none (pairsFrom _) 0)), omega arith)
+loop-holds c =
+    let n = c .args .n in
+    let e : n - 2 - 0 ≡ n - 2 = omega arith in
+    (omega arith, omega (arith, ap triangle e), omega arith)
 
 add-loop : tie.Need-add-loop Inv-loop μ-loop
 add-loop c = omega arith
@@ -39,15 +39,15 @@ loop-less c = omega arith
 loop-again : tie.Need-loop-again Inv-loop μ-loop
 loop-again c =
     let l = c .before in
-    (omega arith, rows-more _ (l .loop .j) (l .loop .s) (l .loop .inv .1), omega arith)
+    (omega arith, omega (arith, l .loop .inv .1, triangle-less (l .before .args .n - 2) (l .loop .j) (omega arith)), omega arith)
 
 returns : tie.Need-returns Inv-loop μ-loop
-unfolding pairsOf
+unfolding triangle
 returns c =
     let l = c .before in
     let n = l .before .args .n in
-    let e : l .loop .j ≡ n - 2 = omega arith in
-    (l .loop .inv .1 ∙ ap (λ (k : ℕ). length (runs (pairsFrom n) 0 k)) e, omega arith)
+    let e : n - 2 - l .loop .j ≡ 0 = omega arith in
+    (omega (arith, l .loop .inv .1, ap triangle e), omega arith)
 
 pub pair-count-spec : {M : Type 1} → statement M
 pair-count-spec =

@@ -1,6 +1,6 @@
 -- `is_raised` meets its contract.
 use borrow.Author.Tests.{eq-eqb, ne-eqb}
-use Rattle.objective_master.specs.Standing.{isRaised}
+use Rattle.objective_master.specs.Cached.{isRaised}
 use Rattle.objective_master.proofs.losses.is_raised.Statement.{statement}
 use Rattle.objective_master.proofs.losses.is_raised.Tie as tie
 

@@ -4,13 +4,14 @@ use Prim.Native.Nat.{_*_}
 use denote.Ref.{now}
 use Rattle.geometry.specs.declared.pose.Pose.{Pose}
 use Rattle.lists.specs.Splice.{splice}
+use Rattle.objective_master.specs.Objective.{goalWidth}
 use Rattle.objective_master.specs.Losses.{poseLosses}
 use borrow.Author.Needs.{needs}
 use Rattle.objective_master.proofs.losses.put_goal.Statement.{statement}
 use Rattle.objective_master.proofs.losses.put_goal.Tie as tie
 use Rattle.manipulability.proofs.view.pose.Reads as pose-reads
-use Rattle.objective_master.proofs.losses.put_six.Reads as put-six-reads
-use Rattle.objective_master.proofs.losses.walked_again.Reads as walked-again-reads
+use Rattle.objective_master.proofs.losses.put_pose_losses.Reads as put-pose-losses-reads
+use Rattle.manipulability.proofs.view.walked_again.Reads as walked-again-reads
 
 walked-again-requires : tie.Need-walked-again-requires
 walked-again-requires c κs = search needs
@@ -18,11 +19,11 @@ walked-again-requires c κs = search needs
 pose-requires : tie.Need-pose-requires
 pose-requires c κs = search needs
 
-mul-put-six : tie.Need-mul-put-six
-mul-put-six c = search needs
+mul-put-pose-losses : tie.Need-mul-put-pose-losses
+mul-put-pose-losses c = search needs
 
-put-six-requires : tie.Need-put-six-requires
-put-six-requires c κs = search needs
+put-pose-losses-requires : tie.Need-put-pose-losses-requires
+put-pose-losses-requires c κs = search needs
 
 same-length : tie.Need-same-length
 same-length c = search needs
@@ -30,7 +31,7 @@ same-length c = search needs
 returns : tie.Need-returns
 returns c =
     let a = c .before .before .before .before .before .before .before .before .before .before .before .args in
-    c .before .before .put-six .ensures ∙ ap (λ (p : Pose). splice (now (a .out)) (6 * a .c) (poseLosses (now (a .goals)) (a .c) p)) (c .before .before .before .before .pose .ensures)
+    c .before .before .put-pose-losses .ensures ∙ ap (λ (p : Pose). splice (now (a .out)) (goalWidth * a .c) (poseLosses (now (a .goals)) (a .c) p)) (c .before .before .before .before .pose .ensures)
 
 returns-2 : tie.Need-returns-2
 returns-2 c = c .before .before .before .before .before .before .pre .1 .1 (sym (c .before .walked-again .ensures) ∙ c .if1 .left)
@@ -41,8 +42,8 @@ put-goal-spec =
     (tie.spec
     walked-again-requires
     pose-requires
-    mul-put-six
-    put-six-requires
+    mul-put-pose-losses
+    put-pose-losses-requires
     same-length
     returns
     returns-2)

@@ -12,27 +12,28 @@ use Rattle.sheet.specs.Chain.{total, chainStart, chain-start-next}
 use Rattle.spacetime.specs.Frames.{chain-within}
 use Rattle.geometry.specs.declared.pose.Pose.{Pose}
 use Rattle.manipulability.specs.View.{viewOf}
+use Rattle.objective_master.specs.Objective.{goalWidth}
 use Rattle.objective_master.specs.Losses.{goalLosses, goal-length}
-use Rattle.objective_master.specs.Standing.{endAgain, kept-turn, goal-is, goal-kept}
+use Rattle.objective_master.specs.Cached.{endAgain, piece-turn, goal-is, goal-cached}
 use Rattle.objective_master.proofs.losses.put_goals.Statement.{statement}
 use Rattle.objective_master.proofs.losses.put_goals.Tie as tie
 use Rattle.objective_master.proofs.losses.put_goal.Reads as put-goal-reads
 
 abbrev Inv-loop : tie.InvT-loop
-Inv-loop sizes goals base tail from to out₀ l₀ c₀ out l c =
-    (c ≤ length sizes) × (l ≡ chainStart sizes c) × (length out ≡ length out₀)
-    × (out ≡ splice out₀ 0 (runs (goalLosses sizes goals (viewOf base tail from to)) 0 c))
+Inv-loop counts goals base tail from to out₀ l₀ c₀ out l c =
+    (c ≤ length counts) × (l ≡ chainStart counts c) × (length out ≡ length out₀)
+    × (out ≡ splice out₀ 0 (runs (goalLosses counts goals (viewOf base tail from to)) 0 c))
 
 abbrev μ-loop : tie.MeasureT-loop
-μ-loop sizes goals base tail from to out₀ l₀ c₀ out l c = length sizes - c
+μ-loop counts goals base tail from to out₀ l₀ c₀ out l c = length counts - c
 
 abbrev S : tie.After-shared-slice-known5 Inv-loop μ-loop → tie.Start Inv-loop μ-loop
 S c = c .before .before .before .before .before .before .before .before
 
-within : (c : tie.After-shared-slice-known5 Inv-loop μ-loop) → chainStart (now (S c .args .sizes)) (c .before .before .loop .c) + getD (now (S c .args .sizes)) (c .before .before .loop .c) 0 ≤ total (now (S c .args .sizes))
-within c = chain-within (now (S c .args .sizes)) (c .before .before .loop .c) (omega arith)
+within : (c : tie.After-shared-slice-known5 Inv-loop μ-loop) → chainStart (now (S c .args .counts)) (c .before .before .loop .c) + getD (now (S c .args .counts)) (c .before .before .loop .c) 0 ≤ total (now (S c .args .counts))
+within c = chain-within (now (S c .args .counts)) (c .before .before .loop .c) (omega arith)
 
-some : (c : tie.After-shared-slice-known5 Inv-loop μ-loop) → 0 < getD (now (S c .args .sizes)) (c .before .before .loop .c) 0
+some : (c : tie.After-shared-slice-known5 Inv-loop μ-loop) → 0 < getD (now (S c .args .counts)) (c .before .before .loop .c) 0
 some c = S c .pre .0 .0 .some (c .before .before .loop .c) (omega arith)
 
 loop-holds : tie.Need-loop-holds Inv-loop μ-loop
@@ -60,7 +61,7 @@ put-goal-requires c κs =
     let l = k .before .before in
     let s = l .before .before .before .before .before .before in
     let a = s .args in
-    let ns = now (a .sizes) in
+    let ns = now (a .counts) in
     let G = now (a .goals) in
     let P : ℕ → Pose = viewOf (now (a .base)) (now (a .tail)) (a .from) (a .to) in
     let r = s .pre .1 .1 in
@@ -68,8 +69,8 @@ put-goal-requires c κs =
       (omega (arith, s .pre .0), omega (arith, r .room, l .loop .inv .2)),
       (
         record { first = omega (arith, v .first, within k, some k); again = v .again },
-        goal-kept ns G P (a .from) (a .to) (l .loop .c) (l .loop .l) (6 * l .loop .c) (l .loop .out) (l .loop .inv .1)
-            (kept-turn (goalLosses ns G P) 6 (goal-length ns G P) (endAgain ns (a .from) (a .to)) 0 (length ns) (now (a .out)) (l .loop .out) (l .loop .c) (6 * l .loop .c) r (l .loop .inv .3)
+        goal-cached ns G P (a .from) (a .to) (l .loop .c) (l .loop .l) (goalWidth * l .loop .c) (l .loop .out) (l .loop .inv .1)
+            (piece-turn (goalLosses ns G P) goalWidth (goal-length ns G P) (endAgain ns (a .from) (a .to)) 0 (length ns) (now (a .out)) (l .loop .out) (l .loop .c) (goalWidth * l .loop .c) r (l .loop .inv .3)
             (omega arith) (omega arith) (omega arith)),
       ),
     )
@@ -86,18 +87,18 @@ loop-again c =
     let l = p .before .before .before .before in
     let s = l .before .before .before .before .before .before in
     let a = s .args in
-    let ns = now (a .sizes) in
+    let ns = now (a .counts) in
     let f : ℕ → List Float = goalLosses ns (now (a .goals)) (viewOf (now (a .base)) (now (a .tail)) (a .from) (a .to)) in
     let k = l .loop .c in
-    let e : p .put-goal .last .1 .1 .1 .1 .1 .1 .1 .0 ≡ splice (l .loop .out) (6 * k) (f k) =
-    p .put-goal .ensures ∙ ap (splice (l .loop .out) (6 * k)) (goal-is ns (now (a .goals)) (viewOf (now (a .base)) (now (a .tail)) (a .from) (a .to)) k (l .loop .l) (l .loop .inv .1)) in
-    let n : length (runs f 0 k) ≡ k * 6 = length-runs f 6 (goal-length _ _ _) 0 k in
-    let six : length (f k) ≡ 6 = goal-length _ _ _ k in
+    let e : p .put-goal .last .1 .1 .1 .1 .1 .1 .1 .0 ≡ splice (l .loop .out) (goalWidth * k) (f k) =
+    p .put-goal .ensures ∙ ap (splice (l .loop .out) (goalWidth * k)) (goal-is ns (now (a .goals)) (viewOf (now (a .base)) (now (a .tail)) (a .from) (a .to)) k (l .loop .l) (l .loop .inv .1)) in
+    let n : length (runs f 0 k) ≡ k * goalWidth = length-runs f goalWidth (goal-length _ _ _) 0 k in
+    let wide : length (f k) ≡ goalWidth = goal-length _ _ _ k in
     let room = s .pre .1 .1 .room in (
       omega arith,
       ap (λ (m : ℕ). m + getD ns k 0) (l .loop .inv .1) ∙ sym (chain-start-next ns k),
-      ap length e ∙ length-splice (l .loop .out) (6 * k) (f k) (omega (arith, room, l .loop .inv .2)) ∙ l .loop .inv .2,
-      splice-turn-at f (now (a .out)) (l .loop .out) _ 0 (6 * k) k (l .loop .inv .3) (omega arith) (omega (arith, room)) e,
+      ap length e ∙ length-splice (l .loop .out) (goalWidth * k) (f k) (omega (arith, room, l .loop .inv .2)) ∙ l .loop .inv .2,
+      splice-turn-at f (now (a .out)) (l .loop .out) _ 0 (goalWidth * k) k (l .loop .inv .3) (omega arith) (omega (arith, room)) e,
     )
 
 same-length : tie.Need-same-length Inv-loop μ-loop
@@ -107,8 +108,8 @@ returns : tie.Need-returns Inv-loop μ-loop
 returns c =
     let l = c .before in
     let a = l .before .before .before .before .before .before .args in
-    let f : ℕ → List Float = goalLosses (now (a .sizes)) (now (a .goals)) (viewOf (now (a .base)) (now (a .tail)) (a .from) (a .to)) in
-    let e : l .loop .c ≡ length (now (a .sizes)) = omega arith in
+    let f : ℕ → List Float = goalLosses (now (a .counts)) (now (a .goals)) (viewOf (now (a .base)) (now (a .tail)) (a .from) (a .to)) in
+    let e : l .loop .c ≡ length (now (a .counts)) = omega arith in
     l .loop .inv .3 ∙ ap (λ (k : ℕ). splice (now (a .out)) 0 (runs f 0 k)) e
 
 pub put-goals-spec : {M : Type 1} → statement M

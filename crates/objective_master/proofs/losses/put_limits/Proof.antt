@@ -9,7 +9,7 @@ use lib.ListN.{length}
 use Rattle.lists.specs.Splice.{splice, length-splice}
 use Rattle.lists.specs.Runs.{runs, length-runs, splice-none, splice-turn-at}
 use Rattle.objective_master.specs.Losses.{limitLosses, limit-length}
-use Rattle.objective_master.specs.Standing.{isRaised, kept-turn}
+use Rattle.objective_master.specs.Cached.{isRaised, piece-turn}
 use Rattle.objective_master.proofs.losses.put_limits.Statement.{statement}
 use Rattle.objective_master.proofs.losses.put_limits.Tie as tie
 use Rattle.objective_master.proofs.losses.put_limit.Reads as put-limit-reads
@@ -34,7 +34,7 @@ put-limit-requires c κs =
     let L = now (a .limits) in
     let X = now (a .x) in (
       (omega arith, omega (arith, s .pre .0), omega (arith, s .pre .1 .room, l .loop .inv .1)),
-      kept-turn (limitLosses L X) 1 (limit-length L X) (isRaised (a .joint)) (a .at) (length X) (now (a .out)) (l .loop .out) (l .loop .j) (a .at + l .loop .j) (s .pre .1) (l .loop .inv .2)
+      piece-turn (limitLosses L X) 1 (limit-length L X) (isRaised (a .joint)) (a .at) (length X) (now (a .out)) (l .loop .out) (l .loop .j) (a .at + l .loop .j) (s .pre .1) (l .loop .inv .2)
           (omega arith) (omega arith) (omega arith),
     )
 

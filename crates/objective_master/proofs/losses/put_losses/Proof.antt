@@ -11,14 +11,15 @@ use Rattle.lists.specs.Splice.{splice}
 use Rattle.lists.specs.Runs.{runs}
 use Rattle.geometry.specs.declared.pose.Pose.{Pose}
 use Rattle.manipulability.specs.View.{viewOf}
-use Rattle.self_collision.specs.Pairs.{Standing, allPairs, chainLengths, pairLoss, pairLosses}
+use Rattle.self_collision.specs.Pairs.{CachedPairs, firstArm, chainLengths, pairLosses, pairLasts}
 use Rattle.task.specs.Task.{Given, givenOf, limitsOf, xoptOf, prevStateOf, prevState2Of}
+use Rattle.objective_master.specs.Objective.{goalWidth}
 use Rattle.objective_master.specs.Losses.{goalLosses, limitLosses, motionLosses}
-use Rattle.objective_master.specs.Standing.{Stands, endAgain, isRaised, goals-stand, limits-stand, pairs-stand, enough, length-one, behind-one, length-two, length-three, behind-three, losses-made}
+use Rattle.objective_master.specs.Cached.{CachedPieces, endAgain, isRaised, goals-cached, limits-cached, pairs-cached, enough, length-one, behind-one, length-two, length-three, behind-three, losses-made}
 use borrow.Author.Needs.{needs}
 use Rattle.objective_master.proofs.losses.put_losses.Statement.{statement}
 use Rattle.objective_master.proofs.losses.put_losses.Tie as tie
-use Rattle.groove.proofs.objective.no_number.Reads as no-number-reads
+use Rattle.groove.proofs.objective.any_nan.Reads as any-nan-reads
 use Rattle.objective_master.proofs.losses.put_goals.Reads as put-goals-reads
 use Rattle.objective_master.proofs.losses.put_limits.Reads as put-limits-reads
 use Rattle.objective_master.proofs.losses.put_motion.Reads as put-motion-reads
@@ -34,7 +35,7 @@ unfolding givenOf
 put-goals-requires c κs =
     let s = c .before .before .before .before .before .before .before .before .before in
     let a = s .args in
-    let ns = now (a .sizes) in
+    let ns = now (a .counts) in
     let G : Given = givenOf ns (now (a .codes)) (now (a .task)) in
     let W = a .walked in
     let P : ℕ → Pose = viewOf (now (a .base)) (now (a .tail)) (W .from) (W .to) in
@@ -47,7 +48,7 @@ put-goals-requires c κs =
       (t .chains, omega (arith, c .before .goals .ensures .1)),
       (
         record { first = omega (arith, t .view .first, w); again = t .view .again },
-        subst (λ (gs : List Float). Stands (goalLosses ns gs P) 6 (endAgain ns (W .from) (W .to)) 0 (length ns) o) (sym (c .before .goals .ensures .0)) (goals-stand G P X (W .from) (W .to) (W .joint) o k w v),
+        subst (λ (gs : List Float). CachedPieces (goalLosses ns gs P) goalWidth (endAgain ns (W .from) (W .to)) 0 (length ns) o) (sym (c .before .goals .ensures .0)) (goals-cached G P X (W .from) (W .to) (W .joint) o k w v),
       ),
     )
 
@@ -62,7 +63,7 @@ unfolding givenOf
 put-limits-requires c κs =
     let s = c .before .before .before .before .before .before .before .before .before .before .before .before .before .before in
     let a = s .args in
-    let ns = now (a .sizes) in
+    let ns = now (a .counts) in
     let G : Given = givenOf ns (now (a .codes)) (now (a .task)) in
     let W = a .walked in
     let P : ℕ → Pose = viewOf (now (a .base)) (now (a .tail)) (W .from) (W .to) in
@@ -76,8 +77,8 @@ put-limits-requires c κs =
     c .before .before .before .before .put-goals .ensures ∙ ap (λ (gs : List Float). splice o 0 (runs (goalLosses ns gs P) 0 (length ns))) (c .before .before .before .before .before .before .goals .ensures .0) in
     let q : now (c .before .limits .result) ≡ G .limits = c .before .limits .ensures .0 ∙ ap (λ (m : ℕ). limitsOf m (now (a .task))) v in (
       omega (arith, c .before .limits .ensures .1),
-      subst (λ (ls : List Float). Stands (limitLosses ls X) 1 (isRaised (W .joint)) (6 * length ns) (length X) (c .before .before .before .before .put-goals .last .1 .1 .1 .1 .1 .1 .0)) (sym q)
-          (limits-stand G P X (W .from) (W .to) (W .joint) o k w v _ (length-one G P X o _ w v (k .room) e₁) (6 * length ns) refl (behind-one G P X o _ w v (k .room) e₁)),
+      subst (λ (ls : List Float). CachedPieces (limitLosses ls X) 1 (isRaised (W .joint)) (goalWidth * length ns) (length X) (c .before .before .before .before .put-goals .last .1 .1 .1 .1 .1 .1 .0)) (sym q)
+          (limits-cached G P X (W .from) (W .to) (W .joint) o k w v _ (length-one G P X o _ w v (k .room) e₁) (goalWidth * length ns) refl (behind-one G P X o _ w v (k .room) e₁)),
     )
 
 add-m : tie.Need-add-m
@@ -88,7 +89,7 @@ unfolding givenOf
 put-motion-requires c κs =
     let s = c .before .before .before .before .before .before .before .before .before .before .before .before .before .before .before .before .before .before in
     let a = s .args in
-    let ns = now (a .sizes) in
+    let ns = now (a .counts) in
     let G : Given = givenOf ns (now (a .codes)) (now (a .task)) in
     let W = a .walked in
     let P : ℕ → Pose = viewOf (now (a .base)) (now (a .tail)) (W .from) (W .to) in
@@ -102,19 +103,19 @@ put-motion-requires c κs =
     c .before .before .before .before .before .before .before .before .put-goals .ensures ∙ ap (λ (gs : List Float). splice o 0 (runs (goalLosses ns gs P) 0 (length ns))) (c .before .before .before .before .before .before .before .before .before .before .goals .ensures .0) in
     let o₁ : List Float = c .before .before .before .before .before .before .before .before .put-goals .last .1 .1 .1 .1 .1 .1 .0 in
     let q : now (c .before .before .before .before .before .limits .result) ≡ G .limits = c .before .before .before .before .before .limits .ensures .0 ∙ ap (λ (m : ℕ). limitsOf m (now (a .task))) v in
-    let e₂ : c .before .before .before .put-limits .last .1 .1 .1 .1 .0 ≡ splice o₁ (6 * length ns) (runs (limitLosses (G .limits) X) 0 (length X)) =
-    c .before .before .before .put-limits .ensures ∙ ap (λ (ls : List Float). splice o₁ (6 * length ns) (runs (limitLosses ls X) 0 (length X))) q in
+    let e₂ : c .before .before .before .put-limits .last .1 .1 .1 .1 .0 ≡ splice o₁ (goalWidth * length ns) (runs (limitLosses (G .limits) X) 0 (length X)) =
+    c .before .before .before .put-limits .ensures ∙ ap (λ (ls : List Float). splice o₁ (goalWidth * length ns) (runs (limitLosses ls X) 0 (length X))) q in
     ((t .whole, omega (arith, v, t .paired .counted .few), omega (arith, enough G P X o _ w v (k .room) e₁, length-two G P X o _ w v (k .room) e₁ _ _ refl e₂)), (t .paired .counted, t .view))
 
-no-number-requires : tie.Need-no-number-requires
-no-number-requires c κs = search needs
+any-nan-requires : tie.Need-any-nan-requires
+any-nan-requires c κs = search needs
 
 add-put-pairs : tie.Need-add-put-pairs
 unfolding givenOf
 add-put-pairs c =
     let s = c .before .before .before .before .before .before .before .before .before .before .before .before .before .before .before .before .before .before .before .before .before .before in
     let a = s .args in
-    let ns = now (a .sizes) in
+    let ns = now (a .counts) in
     let G : Given = givenOf ns (now (a .codes)) (now (a .task)) in
     let W = a .walked in
     let P : ℕ → Pose = viewOf (now (a .base)) (now (a .tail)) (W .from) (W .to) in
@@ -133,7 +134,7 @@ unfolding givenOf
 put-pairs-requires c κs =
     let s = c .before .before .before .before .before .before .before .before .before .before .before .before .before .before .before .before .before .before .before .before .before .before .before in
     let a = s .args in
-    let ns = now (a .sizes) in
+    let ns = now (a .counts) in
     let G : Given = givenOf ns (now (a .codes)) (now (a .task)) in
     let W = a .walked in
     let P : ℕ → Pose = viewOf (now (a .base)) (now (a .tail)) (W .from) (W .to) in
@@ -147,17 +148,18 @@ put-pairs-requires c κs =
     c .before .before .before .before .before .before .before .before .before .before .before .before .before .put-goals .ensures ∙ ap (λ (gs : List Float). splice o 0 (runs (goalLosses ns gs P) 0 (length ns))) (c .before .before .before .before .before .before .before .before .before .before .before .before .before .before .before .goals .ensures .0) in
     let o₁ : List Float = c .before .before .before .before .before .before .before .before .before .before .before .before .before .put-goals .last .1 .1 .1 .1 .1 .1 .0 in
     let q : now (c .before .before .before .before .before .before .before .before .before .before .limits .result) ≡ G .limits = c .before .before .before .before .before .before .before .before .before .before .limits .ensures .0 ∙ ap (λ (m : ℕ). limitsOf m (now (a .task))) v in
-    let e₂ : c .before .before .before .before .before .before .before .before .put-limits .last .1 .1 .1 .1 .0 ≡ splice o₁ (6 * length ns) (runs (limitLosses (G .limits) X) 0 (length X)) =
-    c .before .before .before .before .before .before .before .before .put-limits .ensures ∙ ap (λ (ls : List Float). splice o₁ (6 * length ns) (runs (limitLosses ls X) 0 (length X))) q in
+    let e₂ : c .before .before .before .before .before .before .before .before .put-limits .last .1 .1 .1 .1 .0 ≡ splice o₁ (goalWidth * length ns) (runs (limitLosses (G .limits) X) 0 (length X)) =
+    c .before .before .before .before .before .before .before .before .put-limits .ensures ∙ ap (λ (ls : List Float). splice o₁ (goalWidth * length ns) (runs (limitLosses ls X) 0 (length X))) q in
     let o₂ : List Float = c .before .before .before .before .before .before .before .before .put-limits .last .1 .1 .1 .1 .0 in
-    let e₃ : c .before .before .before .before .put-motion .last .1 .1 .1 .1 .1 .1 .1 .1 .0 ≡ splice o₂ (6 * length ns + length X) (motionLosses P ns (now (a .codes)) X (G .xopt) (G .«prev_state») (G .«prev_state2»)) =
+    let e₃ : c .before .before .before .before .put-motion .last .1 .1 .1 .1 .1 .1 .1 .1 .0 ≡ splice o₂ (goalWidth * length ns + length X) (motionLosses P ns (now (a .codes)) X (G .xopt) (G .«prev_state») (G .«prev_state2»)) =
     c .before .before .before .before .put-motion .ensures
-    ∙ ap (λ (m : ℕ). splice o₂ (6 * length ns + length X) (motionLosses P ns (now (a .codes)) X (xoptOf m (now (a .task))) (prevStateOf m (now (a .task))) (prevState2Of m (now (a .task))))) v in
+    ∙ ap (λ (m : ℕ). splice o₂ (goalWidth * length ns + length X) (motionLosses P ns (now (a .codes)) X (xoptOf m (now (a .task))) (prevStateOf m (now (a .task))) (prevState2Of m (now (a .task))))) v in
     let o₃ : List Float = c .before .before .before .before .put-motion .last .1 .1 .1 .1 .1 .1 .1 .1 .0 in
-    let at : ℕ = 6 * length ns + length X + 4 in (
+    let lens : List ℕ = chainLengths ns (now (a .codes)) in
+    let at : ℕ = goalWidth * length ns + length X + 4 in (
       (t .paired, t .view),
-      subst (λ (b : Bool). Standing (pairLoss ns P 0 b) (W .from) at (allPairs (chainLengths ns (now (a .codes)))) o₃) (sym (c .before .no-number .ensures))
-          (pairs-stand G P X (W .from) (W .to) (W .joint) o k w v _ (length-three G P X o _ w v (k .room) e₁ _ _ refl e₂ _ _ refl e₃) at refl (behind-three G P X o _ w v (k .room) e₁ _ _ refl e₂ _ _ refl e₃)),
+      subst (λ (b : Bool). CachedPairs (pairLasts ns firstArm lens) (pairLosses ns P firstArm lens b) (W .from) at o₃) (sym (c .before .any-nan .ensures))
+          (pairs-cached G P X (W .from) (W .to) (W .joint) o k w v _ (length-three G P X o _ w v (k .room) e₁ _ _ refl e₂ _ _ refl e₃) at refl (behind-three G P X o _ w v (k .room) e₁ _ _ refl e₂ _ _ refl e₃)),
     )
 
 same-length : tie.Need-same-length
@@ -168,7 +170,7 @@ unfolding givenOf
 returns c =
     let s = c .before .before .before .before .before .before .before .before .before .before .before .before .before .before .before .before .before .before .before .before .before .before .before .before .before .before in
     let a = s .args in
-    let ns = now (a .sizes) in
+    let ns = now (a .counts) in
     let G : Given = givenOf ns (now (a .codes)) (now (a .task)) in
     let W = a .walked in
     let P : ℕ → Pose = viewOf (now (a .base)) (now (a .tail)) (W .from) (W .to) in
@@ -182,16 +184,16 @@ returns c =
     c .before .before .before .before .before .before .before .before .before .before .before .before .before .before .before .before .put-goals .ensures ∙ ap (λ (gs : List Float). splice o 0 (runs (goalLosses ns gs P) 0 (length ns))) (c .before .before .before .before .before .before .before .before .before .before .before .before .before .before .before .before .before .before .goals .ensures .0) in
     let o₁ : List Float = c .before .before .before .before .before .before .before .before .before .before .before .before .before .before .before .before .put-goals .last .1 .1 .1 .1 .1 .1 .0 in
     let q : now (c .before .before .before .before .before .before .before .before .before .before .before .before .before .limits .result) ≡ G .limits = c .before .before .before .before .before .before .before .before .before .before .before .before .before .limits .ensures .0 ∙ ap (λ (m : ℕ). limitsOf m (now (a .task))) v in
-    let e₂ : c .before .before .before .before .before .before .before .before .before .before .before .put-limits .last .1 .1 .1 .1 .0 ≡ splice o₁ (6 * length ns) (runs (limitLosses (G .limits) X) 0 (length X)) =
-    c .before .before .before .before .before .before .before .before .before .before .before .put-limits .ensures ∙ ap (λ (ls : List Float). splice o₁ (6 * length ns) (runs (limitLosses ls X) 0 (length X))) q in
+    let e₂ : c .before .before .before .before .before .before .before .before .before .before .before .put-limits .last .1 .1 .1 .1 .0 ≡ splice o₁ (goalWidth * length ns) (runs (limitLosses (G .limits) X) 0 (length X)) =
+    c .before .before .before .before .before .before .before .before .before .before .before .put-limits .ensures ∙ ap (λ (ls : List Float). splice o₁ (goalWidth * length ns) (runs (limitLosses ls X) 0 (length X))) q in
     let o₂ : List Float = c .before .before .before .before .before .before .before .before .before .before .before .put-limits .last .1 .1 .1 .1 .0 in
-    let e₃ : c .before .before .before .before .before .before .before .put-motion .last .1 .1 .1 .1 .1 .1 .1 .1 .0 ≡ splice o₂ (6 * length ns + length X) (motionLosses P ns (now (a .codes)) X (G .xopt) (G .«prev_state») (G .«prev_state2»)) =
+    let e₃ : c .before .before .before .before .before .before .before .put-motion .last .1 .1 .1 .1 .1 .1 .1 .1 .0 ≡ splice o₂ (goalWidth * length ns + length X) (motionLosses P ns (now (a .codes)) X (G .xopt) (G .«prev_state») (G .«prev_state2»)) =
     c .before .before .before .before .before .before .before .put-motion .ensures
-    ∙ ap (λ (m : ℕ). splice o₂ (6 * length ns + length X) (motionLosses P ns (now (a .codes)) X (xoptOf m (now (a .task))) (prevStateOf m (now (a .task))) (prevState2Of m (now (a .task))))) v in
+    ∙ ap (λ (m : ℕ). splice o₂ (goalWidth * length ns + length X) (motionLosses P ns (now (a .codes)) X (xoptOf m (now (a .task))) (prevStateOf m (now (a .task))) (prevState2Of m (now (a .task))))) v in
     let o₃ : List Float = c .before .before .before .before .before .before .before .put-motion .last .1 .1 .1 .1 .1 .1 .1 .1 .0 in
-    let at : ℕ = 6 * length ns + length X + 4 in
+    let at : ℕ = goalWidth * length ns + length X + 4 in
     losses-made G P X o _ w v (k .room) e₁ _ _ refl e₂ _ _ refl e₃ _ at refl
-    (c .before .before .put-pairs .ensures ∙ ap (λ (b : Bool). splice o₃ at (pairLosses ns P (chainLengths ns (now (a .codes))) b)) (c .before .before .before .before .no-number .ensures))
+    (c .before .before .put-pairs .ensures ∙ ap (λ (b : Bool). splice o₃ at (pairLosses ns P firstArm (chainLengths ns (now (a .codes))) b)) (c .before .before .before .before .any-nan .ensures))
 
 pub put-losses-spec : {M : Type 1} → statement M
 put-losses-spec =
@@ -204,7 +206,7 @@ put-losses-spec =
     put-limits-requires
     add-m
     put-motion-requires
-    no-number-requires
+    any-nan-requires
     add-put-pairs
     put-pairs-requires
     same-length

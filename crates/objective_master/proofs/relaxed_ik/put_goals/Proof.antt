@@ -1,12 +1,13 @@
 -- `put_goals` meets its contract: turn after turn one chain more.
-use mathlib.Core.Path.{_≡_, refl, sym, ap, _∙_}
+use mathlib.Core.Path.{_≡_, refl, ap, _∙_}
 use mathlib.Core.List.{List}
-use Prim.Native.Nat.{ℕ, _+_, _-_, _*_, _≤_}
+use Prim.Native.Nat.{ℕ, _-_, _*_, _≤_}
 use native.Mathlib.Omega.{arith}
 use denote.Ref.{now}
 use lib.ListN.{length}
 use Rattle.lists.specs.Splice.{splice, length-splice}
 use Rattle.lists.specs.Runs.{runs, length-runs, splice-none, splice-turn-at}
+use Rattle.objective_master.specs.Objective.{goalWidth}
 use Rattle.objective_master.specs.Kinds.{goalKinds, goal-kinds}
 use Rattle.objective_master.proofs.relaxed_ik.put_goals.Statement.{statement}
 use Rattle.objective_master.proofs.relaxed_ik.put_goals.Tie as tie
@@ -40,10 +41,10 @@ loop-again c =
     let a = l .before .before .args in
     let f : ℕ → List ℕ = λ _. goalKinds in
     let k = l .loop .c in
-    let n : length (runs f 0 k) ≡ k * 6 = length-runs f 6 (λ _. goal-kinds) 0 k in (
+    let n : length (runs f 0 k) ≡ k * goalWidth = length-runs f goalWidth (λ _. goal-kinds) 0 k in (
       omega arith,
-      ap length (p .put-goal .ensures) ∙ length-splice (l .loop .kinds) (6 * k) goalKinds (omega (arith, goal-kinds, l .loop .inv .1)) ∙ l .loop .inv .1,
-      splice-turn-at f (now (a .kinds)) (l .loop .kinds) _ 0 (6 * k) k (l .loop .inv .2) (omega arith) (omega arith) (p .put-goal .ensures),
+      ap length (p .put-goal .ensures) ∙ length-splice (l .loop .kinds) (goalWidth * k) goalKinds (omega (arith, goal-kinds, l .loop .inv .1)) ∙ l .loop .inv .1,
+      splice-turn-at f (now (a .kinds)) (l .loop .kinds) _ 0 (goalWidth * k) k (l .loop .inv .2) (omega arith) (omega arith) (p .put-goal .ensures),
     )
 
 same-length : tie.Need-same-length Inv-loop μ-loop

@@ -5,7 +5,8 @@ use native.Mathlib.Omega.{arith}
 use denote.Ref.{now}
 use lib.ListN.{length}
 use Rattle.sheet.specs.Chain.{joints, joint-last}
-use Rattle.self_collision.specs.Pairs.{allPairs, chainLengths}
+use Rattle.self_collision.specs.Pairs.{allPairs, firstArm, chainLengths}
+use Rattle.objective_master.specs.Objective.{goalWidth}
 use Rattle.objective_master.specs.Kinds.{kinds-count, kinds-made}
 use borrow.Author.Needs.{needs}
 use Rattle.objective_master.proofs.relaxed_ik.relaxed_ik.Statement.{statement}
@@ -17,14 +18,14 @@ use Rattle.objective_master.proofs.relaxed_ik.put_motion.Reads as put-m
 use Rattle.sheet.proofs.chain.joint_number.Reads as joint-number-reads
 
 -- how many there are
-enough : (c : tie.After-joint-number) → (c .before .objective-count .result ≡ 6 * length (now (c .before .before .before .before .before .args .sizes)) + c .joint-number .result + 4 + length (allPairs (chainLengths (now (c .before .before .before .before .before .args .sizes)) (now (c .before .before .before .before .before .args .codes)))))
+enough : (c : tie.After-joint-number) → (c .before .objective-count .result ≡ goalWidth * length (now (c .before .before .before .before .before .args .counts)) + c .joint-number .result + 4 + length (allPairs firstArm (chainLengths (now (c .before .before .before .before .before .args .counts)) (now (c .before .before .before .before .before .args .codes)))))
     × (c .before .objective-count .result ≤ length (now (c .before .before .before .before .before .args .kinds))) × (c .joint-number .result ≡ joints (now (c .before .before .before .before .before .args .codes))) × (c .joint-number .result ≤ 16)
 enough c =
     let s = c .before .before .before .before .before in
     let a = s .args in
     let n = c .before .objective-count .ensures in
     let j = c .joint-number .ensures ∙ joint-last (now (a .codes)) in
-    let k = kinds-count (now (a .sizes)) (now (a .codes)) (s .pre .0 .0 .whole) in
+    let k = kinds-count (now (a .counts)) (now (a .codes)) (s .pre .0 .0 .whole) in
     (omega (arith, n, j, k), omega (arith, n, s .pre .1), j, omega (arith, j, s .pre .0 .0 .few))
 
 objective-count-requires : tie.Need-objective-count-requires
@@ -67,7 +68,7 @@ returns c =
     let a = s .args in
     let n = d .before .objective-count .result in (
       d .before .objective-count .ensures,
-      kinds-made (now (a .sizes)) (now (a .codes)) (s .pre .0 .0 .whole) (now (a .kinds)) _ _ _ _ n (6 * length (now (a .sizes))) (d .joint-number .result) (d .before .objective-count .ensures) (enough d .1) (enough d .2) refl
+      kinds-made (now (a .counts)) (now (a .codes)) (s .pre .0 .0 .whole) (now (a .kinds)) _ _ _ _ n (goalWidth * length (now (a .counts))) (d .joint-number .result) (d .before .objective-count .ensures) (enough d .1) (enough d .2) refl
           (c .before .before .before .before .before .before .before .before .before .before .before .before .before .before .put-goals .ensures) (c .before .before .before .before .before .before .before .before .before .before .put-kind .ensures) (c .before .before .before .before .before .before .put-motion .ensures) (c .before .before .put-kind2 .ensures),
     )
 

@@ -10,13 +10,13 @@ use Rattle.one_block.proofs.grad.entries.Statement.{statement}
 use Rattle.one_block.proofs.grad.entries.Tie as tie
 
 abbrev Inv-loop : tie.InvT-loop
-Inv-loop sizes codes n₀ link₀ n link = (link ≤ length codes) × (n ≡ length codes + againBelow sizes codes link)
+Inv-loop counts codes n₀ link₀ n link = (link ≤ length codes) × (n ≡ length codes + againBelow counts codes link)
 
 abbrev μ-loop : tie.MeasureT-loop
-μ-loop sizes codes n₀ link₀ n link = length codes - link
+μ-loop counts codes n₀ link₀ n link = length codes - link
 
 loop-holds : tie.Need-loop-holds Inv-loop μ-loop
-loop-holds c = (omega arith, omega (arith, below-none (now (c .before .before .args .sizes)) (now (c .before .before .args .codes))))
+loop-holds c = (omega arith, omega (arith, below-none (now (c .before .before .args .counts)) (now (c .before .before .args .codes))))
 
 entries-again-requires : tie.Need-entries-again-requires Inv-loop μ-loop
 entries-again-requires c κs = omega (arith, c .loop-test .taken, c .before .before .before .before .pre)
@@ -26,8 +26,8 @@ add-n c =
     let s = c .before .before .before .before .before in
     let k = c .before .before .loop .link in
     let t = c .before .loop-test .taken in
-    let more = below-more (now (s .args .sizes)) (now (s .args .codes)) k in
-    omega (arith, t, s .pre, c .before .before .loop .inv, c .entries-again .ensures, more, below-most (now (s .args .sizes)) (now (s .args .codes)) (k + 1) (omega (arith, s .pre)) (omega (arith, s .pre, t)))
+    let more = below-more (now (s .args .counts)) (now (s .args .codes)) k in
+    omega (arith, t, s .pre, c .before .before .loop .inv, c .entries-again .ensures, more, below-most (now (s .args .counts)) (now (s .args .codes)) (k + 1) (omega (arith, s .pre)) (omega (arith, s .pre, t)))
 
 add-link : tie.Need-add-link Inv-loop μ-loop
 add-link c = omega (arith, c .before .loop-test .taken, c .before .before .before .before .before .pre)
@@ -38,7 +38,7 @@ loop-less c = omega (arith, c .before .loop-test .taken)
 loop-again : tie.Need-loop-again Inv-loop μ-loop
 loop-again c =
     let s = c .before .before .before .before .before in
-    (omega (arith, c .before .loop-test .taken), omega (arith, c .before .before .loop .inv, c .entries-again .ensures, below-more (now (s .args .sizes)) (now (s .args .codes)) (c .before .before .loop .link)))
+    (omega (arith, c .before .loop-test .taken), omega (arith, c .before .before .loop .inv, c .entries-again .ensures, below-more (now (s .args .counts)) (now (s .args .codes)) (c .before .before .loop .link)))
 
 returns : tie.Need-returns Inv-loop μ-loop
 unfolding entriesOf

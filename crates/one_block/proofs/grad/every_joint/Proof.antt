@@ -24,16 +24,16 @@ use Rattle.geometry.proofs.pose.origin.Reads as origin-reads
 use Rattle.one_block.proofs.grad.link_turn.Reads as link-turn-reads
 
 abbrev Inv-loop : tie.InvT-loop
-Inv-loop sizes codes floats task block₀ kinds f-0s grad₀ joints₀ links₀ frames₀ p₀ link₀ block grad joints links frames p link =
-    (link ≤ length codes) × Meets sizes codes floats block₀ link p × (p .at ≡ length codes + againBelow sizes codes link) × (block ≡ block₀)
-    × (joints ≡ splice joints₀ (length codes) (runs (againOf jointEntry sizes codes) 0 link))
-    × (links ≡ splice links₀ (length codes) (runs (againOf linkEntry sizes codes) 0 link))
-    × (frames ≡ splice frames₀ (7 * length codes) (runs (againOf (poseEntry sizes codes floats block₀) sizes codes) 0 link))
+Inv-loop counts codes floats task block₀ kinds f-0s grad₀ joints₀ links₀ frames₀ p₀ link₀ block grad joints links frames p link =
+    (link ≤ length codes) × Meets counts codes floats block₀ link p × (p .at ≡ length codes + againBelow counts codes link) × (block ≡ block₀)
+    × (joints ≡ splice joints₀ (length codes) (runs (againOf jointEntry counts codes) 0 link))
+    × (links ≡ splice links₀ (length codes) (runs (againOf linkEntry counts codes) 0 link))
+    × (frames ≡ splice frames₀ (7 * length codes) (runs (againOf (poseEntry counts codes floats block₀) counts codes) 0 link))
     × (length joints ≡ length joints₀) × (length links ≡ length links₀) × (length frames ≡ length frames₀)
-    × (grad ≡ splice grad₀ 0 (listed (gradientAt (givenOf sizes codes task) floats block₀) (jointOf codes link))) × (length grad ≡ length grad₀)
+    × (grad ≡ splice grad₀ 0 (listed (gradientAt (givenOf counts codes task) floats block₀) (jointOf codes link))) × (length grad ≡ length grad₀)
 
 abbrev μ-loop : tie.MeasureT-loop
-μ-loop sizes codes floats task block₀ kinds f-0s grad₀ joints₀ links₀ frames₀ p₀ link₀ block grad joints links frames p link =
+μ-loop counts codes floats task block₀ kinds f-0s grad₀ joints₀ links₀ frames₀ p₀ link₀ block grad joints links frames p link =
     length codes - link
 
 origin-requires : tie.Need-origin-requires Inv-loop μ-loop
@@ -43,7 +43,7 @@ loop-holds : tie.Need-loop-holds Inv-loop μ-loop
 loop-holds c =
     let s = c .before .before .before .before .before .before .before .before .before .before .before .before in
     let a = s .args in
-    let ns = now (a .sizes) in
+    let ns = now (a .counts) in
     let cs = now (a .codes) in
     let T = now (a .task) in
     let gs = now (a .floats) in
@@ -70,7 +70,7 @@ link-turn-requires c κs =
     let l = c .before .before .before .before .before .before in
     let s = c .before .before .before .before .before .before .before .before .before .before .before .before .before .before .before .before .before .before .before in
     let a = s .args in
-    let ns = now (a .sizes) in
+    let ns = now (a .counts) in
     let cs = now (a .codes) in
     let T = now (a .task) in
     let gs = now (a .floats) in
@@ -115,7 +115,7 @@ loop-again c =
     let l = c .before .before .before .before .before .before .before .before .before .before .before .before .before .before .before .before .before in
     let s = c .before .before .before .before .before .before .before .before .before .before .before .before .before .before .before .before .before .before .before .before .before .before .before .before .before .before .before .before .before .before in
     let a = s .args in
-    let ns = now (a .sizes) in
+    let ns = now (a .counts) in
     let cs = now (a .codes) in
     let T = now (a .task) in
     let gs = now (a .floats) in
@@ -171,7 +171,7 @@ returns c =
     let l = c .before in
     let s = c .before .before .before .before .before .before .before .before .before .before .before .before .before .before in
     let a = s .args in
-    let ns = now (a .sizes) in
+    let ns = now (a .counts) in
     let cs = now (a .codes) in
     let T = now (a .task) in
     let gs = now (a .floats) in

@@ -22,7 +22,7 @@ walk-requires c κs =
       (
         omega arith,
         (
-          record { number = sym (joint-zero (now (a .codes))); met = start-zero (now (a .sizes)) (now (a .codes)) (now (a .floats)) (now (a .block)) _ (first-zero (now (a .sizes))) },
+          record { number = sym (joint-zero (now (a .codes))); met = start-zero (now (a .counts)) (now (a .codes)) (now (a .floats)) (now (a .block)) _ (first-zero (now (a .counts))) },
           record { joints-room = omega (arith, r); links-room = omega (arith, r); frames-room = omega (arith, r) },
         ),
       ),

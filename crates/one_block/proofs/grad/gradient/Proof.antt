@@ -14,7 +14,7 @@ use Rattle.spacetime.specs.Walk.{framesOf}
 use Rattle.objective_master.specs.Kinds.{kinds-length}
 use Rattle.objective_master.specs.Weights.{weightedBy}
 use Rattle.gradient.specs.Gradient.{lossesAt}
-use Rattle.gradient.specs.Ready.{KindsListed, kinds-most, kinds-listed, lent-whole, standing-whole, losses-walked}
+use Rattle.gradient.specs.Ready.{KindsListed, kinds-most, kinds-listed, lent-whole, cached-whole, losses-walked}
 use Rattle.gradient.specs.Made.{losses-front, value-made}
 use Rattle.one_block.specs.Record.{againOf, recordOf, jointEntry, linkEntry, poseEntry, recordJoints, recordLinks, recordPoses}
 use Rattle.one_block.specs.Laws.{joint-entry, link-entry, pose-entry, frames-length, entries-over, first-poses}
@@ -36,22 +36,22 @@ abbrev L : tie.After-put-losses → tie.Start
 L c = S (c .before .before .before .before .before .before .before .before .before .before .before .before .before .before .before .before)
 
 -- the kinds stand in front of their list
-listed : (c : tie.After-relaxed-ik) → KindsListed (now (S c .args .sizes)) (now (S c .args .codes)) (c .relaxed-ik .last .1 .1 .0) (c .relaxed-ik .result)
+listed : (c : tie.After-relaxed-ik) → KindsListed (now (S c .args .counts)) (now (S c .args .codes)) (c .relaxed-ik .last .1 .1 .0) (c .relaxed-ik .result)
 listed c =
     let a = S c .args in
     let k = c .relaxed-ik in
-    kinds-listed (now (a .sizes)) (now (a .codes)) (now (a .task)) (now (a .floats)) (now (a .block)) (S c .pre .0 .0) _ _ _ (k .kept .1 .1 .0) (k .ensures .0) (k .ensures .1)
+    kinds-listed (now (a .counts)) (now (a .codes)) (now (a .task)) (now (a .floats)) (now (a .block)) (S c .pre .0 .0) _ _ _ (k .kept .1 .1 .0) (k .ensures .0) (k .ensures .1)
 
 -- the first losses
 abbrev losses₀ : tie.After-put-losses → List Float
 losses₀ c = c .put-losses .last .1 .1 .1 .1 .1 .1 .1 .0
 
-made : (c : tie.After-put-losses) → losses₀ c ≡ splice (replicate 131 nought) 0 (lossesAt (givenOf (now (L c .args .sizes)) (now (L c .args .codes)) (now (L c .args .task))) (now (L c .args .floats)) (now (L c .args .block)))
+made : (c : tie.After-put-losses) → losses₀ c ≡ splice (replicate 131 nought) 0 (lossesAt (givenOf (now (L c .args .counts)) (now (L c .args .codes)) (now (L c .args .task))) (now (L c .args .floats)) (now (L c .args .block)))
 made c =
     let w = c .before .before .before .before .before .before .before .before .before .before .first-walk in
     let s = L c in
     let a = s .args in
-    let ns = now (a .sizes) in
+    let ns = now (a .counts) in
     let cs = now (a .codes) in
     let T = now (a .task) in
     let gs = now (a .floats) in
@@ -66,7 +66,7 @@ relaxed-ik-requires : tie.Need-relaxed-ik-requires
 relaxed-ik-requires c κs =
     let s = c .before .before .before .before .before .before .before .before .before .before in
     let a = s .args in
-    let ns = now (a .sizes) in
+    let ns = now (a .counts) in
     let cs = now (a .codes) in
     let T = now (a .task) in
     let gs = now (a .floats) in
@@ -78,7 +78,7 @@ relaxed-ik-requires c κs =
 first-walk-requires : tie.Need-first-walk-requires
 first-walk-requires c κs =
     let s = c .before .before .before .before .before .before .before .before .before .before .before .before .before .before .before .before in
-    let o = entries-over (now (s .args .sizes)) (now (s .args .codes)) in
+    let o = entries-over (now (s .args .counts)) (now (s .args .codes)) in
     let r = s .pre .1 in
     (s .pre .0 .0 .sheet, record { joints-room = omega (arith, o, r); links-room = omega (arith, o, r); frames-room = omega (arith, o, r) })
 
@@ -89,7 +89,7 @@ put-losses-requires : tie.Need-put-losses-requires
 put-losses-requires c κs =
     let s = c .before .before .before .before .before .before .before .before .before .before .before .before .before .before .before .before .before .before .before .before .before .before .before .before .before .before in
     let a = s .args in
-    let ns = now (a .sizes) in
+    let ns = now (a .counts) in
     let cs = now (a .codes) in
     let T = now (a .task) in
     let gs = now (a .floats) in
@@ -97,7 +97,7 @@ put-losses-requires c κs =
     let G : Given = givenOf ns cs T in
     let w = c .before .before .before .before .before .before .before .before .before .first-walk in
     let r = s .pre .0 .0 in
-    (lent-whole ns cs T gs x r (w .last .1 .1 .1 .1 .1 .1 .0) (omega (arith, s .pre .1, entries-over ns cs, w .kept .1 .1 .1 .1 .1 .1 .0)), standing-whole ns cs T gs x r _ _ (kinds-most ns cs T gs x r))
+    (lent-whole ns cs T gs x r (w .last .1 .1 .1 .1 .1 .1 .0) (omega (arith, s .pre .1, entries-over ns cs, w .kept .1 .1 .1 .1 .1 .1 .0)), cached-whole ns cs T gs x r _ _ (kinds-most ns cs T gs x r))
 
 array-share-prefix-list : tie.Need-array-share-prefix-list
 array-share-prefix-list c = listed (c .before .before .before .before .before .before .before .before .before .before .before .before .before .before .before .before .before .before) .within
@@ -116,7 +116,7 @@ every-joint-requires c κs =
     let w = c .before .before .before .before .before .before .before .before .before .before .before .before .before .before .before .before .before .before .first-walk in
     let s = c .before .before .before .before .before .before .before .before .before .before .before .before .before .before .before .before .before .before .before .before .before .before .before .before .before .before .before .before .before .before .before .before .before .before .before in
     let a = s .args in
-    let ns = now (a .sizes) in
+    let ns = now (a .counts) in
     let cs = now (a .codes) in
     let T = now (a .task) in
     let gs = now (a .floats) in
@@ -179,7 +179,7 @@ returns c =
     let t = c .before .before .before .before .before .before .before .before .before .before .before .before .before .before .every-joint in
     let s = c .before .before .before .before .before .before .before .before .before .before .before .before .before .before .before .before .before .before .before .before .before .before .before .before .before .before .before .before .before .before .before .before .before .before .before .before .before .before .before .before .before .before .before .before .before .before .before .before .before .before in
     let a = s .args in
-    let ns = now (a .sizes) in
+    let ns = now (a .counts) in
     let cs = now (a .codes) in
     let T = now (a .task) in
     let gs = now (a .floats) in

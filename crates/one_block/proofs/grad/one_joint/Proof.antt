@@ -17,7 +17,7 @@ use Rattle.gradient.specs.Ready.{ready-other, kinds-most}
 use Rattle.gradient.specs.Made.{raised-length}
 use Rattle.one_block.specs.Record.{copyOf, jointEntry, linkEntry, poseEntry}
 use Rattle.one_block.specs.Laws.{copy-joint, before-copy, joint-small, joint-in-block, Fits, fits, again-at-joint, again-joint, runs-poses}
-use Rattle.one_block.specs.Slope.{standing-at, slope-at, slopes-joint}
+use Rattle.one_block.specs.Slope.{cached-at, slope-at, slopes-joint}
 use borrow.Author.Needs.{needs}
 use Rattle.one_block.proofs.grad.one_joint.Statement.{statement}
 use Rattle.one_block.proofs.grad.one_joint.Tie as tie
@@ -43,20 +43,20 @@ within : (s : tie.Start) → s .args .turn .here .joint < length (now (s .args .
 within s =
     let a = s .args in
     let st = s .pre .1 .1 .0 in
-    omega (arith, st .0 .meets .number, joint-in-block (now (a .sizes)) (now (a .codes)) (now (a .floats)) (now (a .block)) (s .pre .0 .sheet) (a .turn .link) (st .0 .inside) (st .1))
+    omega (arith, st .0 .meets .number, joint-in-block (now (a .counts)) (now (a .codes)) (now (a .floats)) (now (a .block)) (s .pre .0 .sheet) (a .turn .link) (st .0 .inside) (st .1))
 
-room : (s : tie.Start) → Fits (now (s .args .sizes)) (now (s .args .codes)) (s .args .turn .link) (s .args .turn .here .at)
+room : (s : tie.Start) → Fits (now (s .args .counts)) (now (s .args .codes)) (s .args .turn .link) (s .args .turn .here .at)
 room s =
     let a = s .args in
     let st = s .pre .1 .1 .0 in
-    fits (now (a .sizes)) (now (a .codes)) (a .turn .link) (a .turn .here .at) (st .1) (st .0 .inside) (s .pre .0 .sheet .whole) (st .0 .next)
+    fits (now (a .counts)) (now (a .codes)) (a .turn .link) (a .turn .here .at) (st .1) (st .0 .inside) (s .pre .0 .sheet .whole) (st .0 .next)
 
 -- what `raise` leaves is the copy of this link's joint
 raised : (c : tie.After-raise) → c .raise .last .0 ≡ copyOf (now (S (c .before .before) .args .block)) (jointOf (now (S (c .before .before) .args .codes)) (S (c .before .before) .args .turn .link))
 raised c =
     let s = S (c .before .before) in
     let a = s .args in
-    let ns = now (a .sizes) in
+    let ns = now (a .counts) in
     let cs = now (a .codes) in
     let T = now (a .task) in
     let gs = now (a .floats) in
@@ -71,12 +71,12 @@ raised c =
 
 -- the copy's links stand in the record
 walked : (c : tie.After-walk-again) → F c ≡ splice (now (W c .args .frames)) (7 * W c .args .turn .here .at)
-    (runs (poses (now (W c .args .sizes)) (now (W c .args .codes)) (now (W c .args .floats)) (copyOf (now (W c .args .block)) (jointOf (now (W c .args .codes)) (W c .args .turn .link)))) (W c .args .turn .link) (endIn (now (W c .args .sizes)) (W c .args .turn .link) - W c .args .turn .link))
+    (runs (poses (now (W c .args .counts)) (now (W c .args .codes)) (now (W c .args .floats)) (copyOf (now (W c .args .block)) (jointOf (now (W c .args .codes)) (W c .args .turn .link)))) (W c .args .turn .link) (endIn (now (W c .args .counts)) (W c .args .turn .link) - W c .args .turn .link))
 walked c =
     let e = c .before .before .before .before .before .before .before .before .before in
     let s = S e in
     let a = s .args in
-    let ns = now (a .sizes) in
+    let ns = now (a .counts) in
     let cs = now (a .codes) in
     let T = now (a .task) in
     let gs = now (a .floats) in
@@ -91,11 +91,11 @@ walked c =
     ∙ ap (λ (z : ℕ). splice (now (a .frames)) (7 * p .at) (runs (poses ns cs gs (copyOf x (jointOf cs k))) k (z - k))) (e .chain-end .ensures)
 
 -- and the first walk is still in front of it
-first : (c : tie.After-walk-again) → take (7 * length (now (W c .args .codes))) (F c) ≡ framesOf (now (W c .args .sizes)) (now (W c .args .codes)) (now (W c .args .floats)) (now (W c .args .block))
+first : (c : tie.After-walk-again) → take (7 * length (now (W c .args .codes))) (F c) ≡ framesOf (now (W c .args .counts)) (now (W c .args .codes)) (now (W c .args .floats)) (now (W c .args .block))
 first c =
     let s = W c in
     let a = s .args in
-    let ns = now (a .sizes) in
+    let ns = now (a .counts) in
     let cs = now (a .codes) in
     let T = now (a .task) in
     let gs = now (a .floats) in
@@ -111,7 +111,7 @@ first c =
     ∙ take-splice-before (now (a .frames)) (7 * p .at) (7 * n) (runs (poses ns cs gs (copyOf x (jointOf cs k))) k (endIn ns k - k)) (omega (arith, st .next)) (omega (arith, f .room, s .pre .1 .0))
     ∙ st .walked
 
-fitting : (c : tie.After-walk-again) → 7 * W c .args .turn .here .at + 7 * (endIn (now (W c .args .sizes)) (W c .args .turn .link) - W c .args .turn .link) ≤ length (now (W c .args .frames))
+fitting : (c : tie.After-walk-again) → 7 * W c .args .turn .here .at + 7 * (endIn (now (W c .args .counts)) (W c .args .turn .link) - W c .args .turn .link) ≤ length (now (W c .args .frames))
 fitting c =
     let s = W c in
     omega (arith, room s .room, s .pre .1 .0)
@@ -132,7 +132,7 @@ walk-again-requires c κs =
     let e = c .before .before .before .before .before .before .before .before in
     let s = S e in
     let a = s .args in
-    let ns = now (a .sizes) in
+    let ns = now (a .counts) in
     let cs = now (a .codes) in
     let T = now (a .task) in
     let gs = now (a .floats) in
@@ -163,7 +163,7 @@ slope-requires c κs =
     let e = c .before .before .before .before .before .before .before .before .before .before .before .before .before .before .before .before .before .before .before in
     let s = S e in
     let a = s .args in
-    let ns = now (a .sizes) in
+    let ns = now (a .counts) in
     let cs = now (a .codes) in
     let T = now (a .task) in
     let gs = now (a .floats) in
@@ -189,7 +189,7 @@ slope-requires c κs =
           values = many ∙ rd .sheet .block;
           whole = rd .whole;
         },
-        standing-at ns cs T gs x rd k (st .inside) turns (F w) (now (a .frames)) (7 * p .at) (first w) (walked w) fit (now (a .kinds)) (now (a .f-0s)) (now (a .grad)) kn
+        cached-at ns cs T gs x rd k (st .inside) turns (F w) (now (a .frames)) (7 * p .at) (first w) (walked w) fit (now (a .kinds)) (now (a .f-0s)) (now (a .grad)) kn
             (w .walk-again .last .1 .1 .1 .0) (e .chain-end .result) (copied w) ee (p .joint) (st .meets .number),
       ),
     )
@@ -230,7 +230,7 @@ returns c =
     let e = c .before .before .before .before .before .before .before .before .before .before .before .before .before .before .before .before .before .before .before .before .before .before .before .before in
     let s = S e in
     let a = s .args in
-    let ns = now (a .sizes) in
+    let ns = now (a .counts) in
     let cs = now (a .codes) in
     let T = now (a .task) in
     let gs = now (a .floats) in

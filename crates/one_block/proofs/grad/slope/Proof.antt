@@ -13,8 +13,8 @@ use Rattle.task.specs.Task.{Given, givenOf}
 use Rattle.manipulability.specs.View.{viewOf}
 use Rattle.objective_master.specs.Losses.{Lent, lossesOf}
 use Rattle.objective_master.specs.Kinds.{kinds-length}
-use Rattle.objective_master.specs.Standing.{Standing}
-use Rattle.one_block.specs.Slope.{standing-front, slope-made}
+use Rattle.objective_master.specs.Cached.{Cached}
+use Rattle.one_block.specs.Slope.{cached-front, slope-made}
 use borrow.Author.Needs.{needs}
 use Rattle.one_block.proofs.grad.slope.Statement.{statement}
 use Rattle.one_block.proofs.grad.slope.Tie as tie
@@ -67,7 +67,7 @@ unfolding givenOf
 put-losses-requires c κs =
     let s = c .before .before .before .before .before .before .before .before .before .before .before .before .before in
     let a = s .args in
-    let ns = now (a .sizes) in
+    let ns = now (a .counts) in
     let cs = now (a .codes) in
     let T = now (a .task) in
     let G : Given = givenOf ns cs T in
@@ -79,8 +79,8 @@ put-losses-requires c κs =
     let cur = f .last .1 .0 in
     let p = s .pre .0 in (
       subst (λ (t : List Float). Lent ns cs T x fs t (w .from) (w .to)) (sym (rest s)) (s .pre .1 .0),
-      subst (λ (t : List Float). Standing G (viewOf fs t (w .from) (w .to)) x (w .from) (w .to) (w .joint) cur) (sym (rest s))
-          (standing-front G view x (w .from) (w .to) (w .joint) (length (now (a .kinds))) (now (a .f-0s)) _ cur (s .pre .1 .1) (ap length (p .0) ∙ kinds-length ns cs) (p .2) (p .1) (f .ensures)),
+      subst (λ (t : List Float). Cached G (viewOf fs t (w .from) (w .to)) x (w .from) (w .to) (w .joint) cur) (sym (rest s))
+          (cached-front G view x (w .from) (w .to) (w .joint) (length (now (a .kinds))) (now (a .f-0s)) _ cur (s .pre .1 .1) (ap length (p .0) ∙ kinds-length ns cs) (p .2) (p .1) (f .ensures)),
     )
 
 weights-requires : tie.Need-weights-requires
@@ -97,7 +97,7 @@ unfolding givenOf
 returns c =
     let s = c .before .before .before .before .before .before .before .before .before .before .before .before .before .before .before .before .before .before .before in
     let a = s .args in
-    let ns = now (a .sizes) in
+    let ns = now (a .counts) in
     let cs = now (a .codes) in
     let T = now (a .task) in
     let G : Given = givenOf ns cs T in

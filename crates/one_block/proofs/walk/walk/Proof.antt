@@ -13,16 +13,16 @@ use Rattle.one_block.proofs.walk.walk.Statement.{statement}
 use Rattle.one_block.proofs.walk.walk.Tie as tie
 
 abbrev Inv-loop : tie.InvT-loop
-Inv-loop sizes codes floats block from to raised joints₀ links₀ frames₀ p₀ link₀ joints links frames p link =
-    (from ≤ link) × (link ≤ to) × (p .at ≡ p₀ .at + (link - from)) × Meets sizes codes floats block link p
+Inv-loop counts codes floats block from to raised joints₀ links₀ frames₀ p₀ link₀ joints links frames p link =
+    (from ≤ link) × (link ≤ to) × (p .at ≡ p₀ .at + (link - from)) × Meets counts codes floats block link p
     × (joints ≡ splice joints₀ (p₀ .at) (runs (jointEntry raised) from (link - from)))
     × (links ≡ splice links₀ (p₀ .at) (runs (linkEntry raised) from (link - from)))
-    × (frames ≡ splice frames₀ (7 * p₀ .at) (runs (poses sizes codes floats block) from (link - from)))
+    × (frames ≡ splice frames₀ (7 * p₀ .at) (runs (poses counts codes floats block) from (link - from)))
     × (length joints ≡ length joints₀) × (length links ≡ length links₀) × (length frames ≡ length frames₀)
-    × (p ≡ placeAfterAll sizes codes floats block from (link - from) p₀)
+    × (p ≡ placeAfterAll counts codes floats block from (link - from) p₀)
 
 abbrev μ-loop : tie.MeasureT-loop
-μ-loop sizes codes floats block from to raised joints₀ links₀ frames₀ p₀ link₀ joints links frames p link =
+μ-loop counts codes floats block from to raised joints₀ links₀ frames₀ p₀ link₀ joints links frames p link =
     to - link
 
 -- the start, from the loop's head
@@ -39,11 +39,11 @@ loop-holds c =
       s .pre .1 .1 .0,
       splice-start (jointEntry (a .raised)) 1 (joint-entry (a .raised)) (now (a .joints)) (a .here .at) (a .from),
       splice-start (linkEntry (a .raised)) 1 (link-entry (a .raised)) (now (a .links)) (a .here .at) (a .from),
-      splice-start (poses (now (a .sizes)) (now (a .codes)) (now (a .floats)) (now (a .block))) 7 (poses-length (now (a .sizes)) (now (a .codes)) (now (a .floats)) (now (a .block))) (now (a .frames)) (7 * a .here .at) (a .from),
+      splice-start (poses (now (a .counts)) (now (a .codes)) (now (a .floats)) (now (a .block))) 7 (poses-length (now (a .counts)) (now (a .codes)) (now (a .floats)) (now (a .block))) (now (a .frames)) (7 * a .here .at) (a .from),
       refl,
       refl,
       refl,
-      sym (walked-none (now (a .sizes)) (now (a .codes)) (now (a .floats)) (now (a .block)) (a .from) (a .here)),
+      sym (walked-none (now (a .counts)) (now (a .codes)) (now (a .floats)) (now (a .block)) (a .from) (a .here)),
     )
 
 walk-link-requires : tie.Need-walk-link-requires Inv-loop μ-loop
@@ -72,7 +72,7 @@ loop-again c =
     let i = l .loop .inv in
     let w = c .before .before .before .before .before .before .walk-link in
     let t : k < a .to = c .before .before .before .before .before .before .before .before .before .before .loop-test .taken in
-    let ns = now (a .sizes) in
+    let ns = now (a .counts) in
     let cs = now (a .codes) in
     let gs = now (a .floats) in
     let x = now (a .block) in
@@ -107,7 +107,7 @@ returns c =
     let s = S l in
     let a = s .args in
     let e : l .loop .link ≡ a .to = omega (arith, c .loop-test .left) in
-    (i .10 ∙ ap (λ (k : ℕ). placeAfterAll (now (a .sizes)) (now (a .codes)) (now (a .floats)) (now (a .block)) (a .from) (k - a .from) (a .here)) e, (rw e at (i .4), (rw e at (i .5), rw e at (i .6))))
+    (i .10 ∙ ap (λ (k : ℕ). placeAfterAll (now (a .counts)) (now (a .codes)) (now (a .floats)) (now (a .block)) (a .from) (k - a .from) (a .here)) e, (rw e at (i .4), (rw e at (i .5), rw e at (i .6))))
 
 pub walk-spec : {M : Type 1} → statement M
 walk-spec =

@@ -13,7 +13,7 @@ cast-raised : tie.Need-cast-raised
 cast-raised c =
     let s = c .before .before .before .before .before .before .before .before in
     let a = s .args in
-    let i = joint-small (now (a .sizes)) (now (a .codes)) (now (a .floats)) (now (a .block)) (s .pre .0) (a .link) (omega (arith, s .pre .1 .0)) in
+    let i = joint-small (now (a .counts)) (now (a .codes)) (now (a .floats)) (now (a .block)) (s .pre .0) (a .link) (omega (arith, s .pre .1 .0)) in
     omega (arith, i, s .pre .1 .1 .0 .number)
 
 walk-requires : tie.Need-walk-requires
@@ -35,7 +35,7 @@ returns : tie.Need-returns
 returns c =
     let w = c .before .before .before .before .before .before .walk in
     let a = c .before .before .before .before .before .before .before .before .before .before .before .before .before .before .before .before .before .before .before .args in (
-      ap (λ (p : Place). p .at) (w .ensures .0) ∙ walked-at (now (a .sizes)) (now (a .codes)) (now (a .floats)) (now (a .block)) (a .link) (a .here) (a .end - a .link),
+      ap (λ (p : Place). p .at) (w .ensures .0) ∙ walked-at (now (a .counts)) (now (a .codes)) (now (a .floats)) (now (a .block)) (a .link) (a .here) (a .end - a .link),
       (refl, w .ensures .1),
     )
 

@@ -16,7 +16,7 @@ after-link-requires : tie.Need-after-link-requires
 after-link-requires c κs =
     let s = c .before .before .before .before .before .before .before .before in
     let a = s .args in
-    let i = joint-inside (now (a .sizes)) (now (a .codes)) (now (a .floats)) (now (a .block)) (s .pre .0) (a .link) (s .pre .1 .0 .0) in
+    let i = joint-inside (now (a .counts)) (now (a .codes)) (now (a .floats)) (now (a .block)) (s .pre .0) (a .link) (s .pre .1 .0 .0) in
     (omega (arith, s .pre), omega (arith, i, s .pre .1 .0 .1))
 
 mul-joints : tie.Need-mul-joints
@@ -47,7 +47,7 @@ next-joint-requires : tie.Need-next-joint-requires
 next-joint-requires c κs =
     let s = c .before .before .before .before .before .before .before .before .before .before .before .before .before in
     let a = s .args in
-    let i = joint-small (now (a .sizes)) (now (a .codes)) (now (a .floats)) (now (a .block)) (s .pre .0) (a .link) (omega (arith, s .pre .1 .0)) in
+    let i = joint-small (now (a .counts)) (now (a .codes)) (now (a .floats)) (now (a .block)) (s .pre .0) (a .link) (omega (arith, s .pre .1 .0)) in
     omega (arith, i, s .pre .1 .0)
 
 same-length : tie.Need-same-length

@@ -12,8 +12,8 @@ use Rattle.calls.specs.Arms.{taken, refused}
 use Rattle.lent_bytes.specs.Lent.{front, bytesOf, bytesOfNumbers}
 use Rattle.lent_bytes.specs.SheetLists.{SheetLists, sheetWith}
 use Rattle.objective_bytes.specs.ObjectiveLaws.{slopes-in-length}
-use Rattle.one_block_bytes.specs.OneBlockCalls.{jointsIn, linksIn, posesIn}
-use Rattle.one_block_bytes.specs.OneBlockLaws.{Fitted, one-block-fitted, aimed-counted, joints-in-length, links-in-length, poses-in-length}
+use Rattle.one_block_bytes.specs.OneBlockCalls.{recordJointsIn, recordLinksIn, recordPosesIn}
+use Rattle.one_block_bytes.specs.OneBlockLaws.{Fitted, one-block-fitted, task-counted, joints-in-length, links-in-length, poses-in-length}
 use borrow.Author.Needs.{needs}
 use Rattle.one_block_bytes.proofs.one_block_lists.gradient_one_block.Statement.{statement}
 use Rattle.one_block_bytes.proofs.one_block_lists.gradient_one_block.Tie as tie
@@ -62,7 +62,7 @@ slice-aggregate-one-block-on-4 : tie.Need-slice-aggregate-one-block-on-4
 slice-aggregate-one-block-on-4 c = search needs
 
 one-block-on-requires : tie.Need-one-block-on-requires
-one-block-on-requires c κs = (fitted (c .before .before .before .before .before) .aimed, (refl, refl, refl, refl))
+one-block-on-requires c κs = (fitted (c .before .before .before .before .before) .accepted, (refl, refl, refl, refl))
 
 slice-aggregate-put-slopes : tie.Need-slice-aggregate-put-slopes
 slice-aggregate-put-slopes c = search needs
@@ -77,7 +77,7 @@ put-slopes-requires c κs =
 entries-requires : tie.Need-entries-requires
 entries-requires c κs =
     let e = c .before .before .before .before .before .before .before .before .before .before .before .before .before .before .before .before .before .before .before .before in
-    aimed-counted (sheet (S e)) _ _ _ (fitted e .aimed)
+    task-counted (sheet (S e)) _ _ _ (fitted e .accepted)
 
 slice-aggregate-put-record : tie.Need-slice-aggregate-put-record
 slice-aggregate-put-record c = search needs
@@ -131,10 +131,10 @@ returns-2 c =
         (
           p .1 ∙ ap (λ (y : List Float). splice (now (a .slopes)) 0 (bytesOf y)) (front _ _ _ _ (g .1 .1 .0) l) ∙ sym (taken 0 _ _ refl),
           (
-            q .0 ∙ ap (λ (y : List ℕ). splice (now (a .record-joints)) 0 (bytesOfNumbers y)) (front _ _ (jointsIn (sheet s)) _ (g .1 .1 .1 .0) (joints-in-length (sheet s) ∙ sym m)) ∙ sym (taken 0 _ _ refl),
-            q .1 .0 ∙ ap (λ (y : List ℕ). splice (now (a .record-links)) 0 (bytesOfNumbers y)) (front _ _ (linksIn (sheet s)) _ (g .1 .1 .1 .1) (links-in-length (sheet s) ∙ sym m)) ∙ sym (taken 0 _ _ refl),
+            q .0 ∙ ap (λ (y : List ℕ). splice (now (a .record-joints)) 0 (bytesOfNumbers y)) (front _ _ (recordJointsIn (sheet s)) _ (g .1 .1 .1 .0) (joints-in-length (sheet s) ∙ sym m)) ∙ sym (taken 0 _ _ refl),
+            q .1 .0 ∙ ap (λ (y : List ℕ). splice (now (a .record-links)) 0 (bytesOfNumbers y)) (front _ _ (recordLinksIn (sheet s)) _ (g .1 .1 .1 .1) (links-in-length (sheet s) ∙ sym m)) ∙ sym (taken 0 _ _ refl),
             q .1 .1 ∙ ap (λ (y : List Float). splice (now (a .record-poses)) 0 (bytesOf y))
-                (front _ _ (posesIn (sheet s) (block s)) _ (g .1 .1 .1 .2) (poses-in-length (sheet s) (block s) ∙ ap (λ (k : ℕ). 7 * k) (sym m))) ∙ sym (taken 0 _ _ refl),
+                (front _ _ (recordPosesIn (sheet s) (block s)) _ (g .1 .1 .1 .2) (poses-in-length (sheet s) (block s) ∙ ap (λ (k : ℕ). 7 * k) (sym m))) ∙ sym (taken 0 _ _ refl),
           ),
         ),
       ),

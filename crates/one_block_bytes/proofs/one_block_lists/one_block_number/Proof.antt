@@ -4,12 +4,12 @@ use native.Mathlib.Omega.{arith}
 use denote.Ref.{now}
 use Rattle.refusals.specs.Lowest.{firstOf, first-zero, first-some}
 use Rattle.refusals.specs.Refusal.{roomRefusal}
-use Rattle.one_block_calls.specs.Room.{recordRefusal}
+use Rattle.calls.specs.OneBlock.{recordRefusal}
 use Rattle.lent_bytes.specs.SheetLists.{SheetLists, sheetWith, same-two}
-use Rattle.objective_bytes.specs.ObjectiveCalls.{aimedNumber}
+use Rattle.objective_bytes.specs.ObjectiveCalls.{taskNumber}
 use Rattle.objective_bytes.specs.ObjectiveLaws.{same-four}
 use Rattle.one_block_bytes.specs.OneBlockCalls.{oneBlockNumber}
-use Rattle.one_block_bytes.specs.OneBlockLaws.{Counted, aimed-counted}
+use Rattle.one_block_bytes.specs.OneBlockLaws.{Counted, task-counted}
 use borrow.Author.Needs.{needs}
 use Rattle.one_block_bytes.proofs.one_block_lists.one_block_number.Statement.{statement}
 use Rattle.one_block_bytes.proofs.one_block_lists.one_block_number.Tie as tie
@@ -20,19 +20,19 @@ sheet s = sheetWith (now (s .args .sizes)) (now (s .args .codes)) (now (s .args 
 abbrev S : tie.Else1 → tie.Start
 S c = c .before .before .before .before .before .before .before .before .before
 
-passed : (c : tie.Else1) → aimedNumber (sheet (S c)) (now (S c .args .goals)) (now (S c .args .history)) (now (S c .args .joints)) ≡ 0
-passed c = sym (c .before .aimed-number .ensures) ∙ c .if1 .left
+passed : (c : tie.Else1) → taskNumber (sheet (S c)) (now (S c .args .goals)) (now (S c .args .history)) (now (S c .args .joints)) ≡ 0
+passed c = sym (c .before .task-number .ensures) ∙ c .if1 .left
 
 counted : (c : tie.Else1) → Counted (sheet (S c))
-counted c = aimed-counted (sheet (S c)) _ _ _ (passed c)
+counted c = task-counted (sheet (S c)) _ _ _ (passed c)
 
-aimed-number-requires : tie.Need-aimed-number-requires
-aimed-number-requires c κs = search needs
+task-number-requires : tie.Need-task-number-requires
+task-number-requires c κs = search needs
 
 returns : tie.Need-returns
 unfolding oneBlockNumber
 returns c =
-    let e = c .before .aimed-number .ensures in
+    let e = c .before .task-number .ensures in
     e ∙ sym (first-some _ _ (λ z. c .if1 .taken (e ∙ z)))
 
 block-length-requires : tie.Need-block-length-requires
@@ -86,7 +86,7 @@ pub one-block-number-spec : {M : Type 1} → statement M
 one-block-number-spec =
     tie.close
     (tie.spec
-    aimed-number-requires
+    task-number-requires
     returns
     block-length-requires
     room-requires

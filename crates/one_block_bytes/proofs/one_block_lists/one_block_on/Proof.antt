@@ -10,9 +10,9 @@ use Rattle.gradient.specs.Gradient.{valueAt, gradientOf}
 use Rattle.one_block.specs.Record.{entriesOf, recordJoints, recordLinks, recordPoses}
 use Rattle.lent_bytes.specs.SheetLists.{SheetLists, sheetWith}
 use Rattle.objective_bytes.specs.ObjectiveCalls.{valueIn, slopesIn}
-use Rattle.objective_bytes.specs.ObjectiveLaws.{Taken, aimed-taken, fit-taken, laid-taken, ready-taken}
-use Rattle.one_block_bytes.specs.OneBlockCalls.{entriesIn, jointsIn, linksIn, posesIn}
-use Rattle.one_block_bytes.specs.OneBlockLaws.{aimed-counted}
+use Rattle.objective_bytes.specs.ObjectiveLaws.{Taken, task-taken, fit-taken, laid-taken, ready-taken}
+use Rattle.one_block_bytes.specs.OneBlockCalls.{entriesIn, recordJointsIn, recordLinksIn, recordPosesIn}
+use Rattle.one_block_bytes.specs.OneBlockLaws.{task-counted}
 use borrow.Author.Needs.{needs}
 use Rattle.one_block_bytes.proofs.one_block_lists.one_block_on.Statement.{statement}
 use Rattle.one_block_bytes.proofs.one_block_lists.one_block_on.Tie as tie
@@ -27,7 +27,7 @@ abbrev block : tie.Start → List Float
 block s = now (s .args .block)
 
 known : (s : tie.Start) → Taken (sheet s) (now (s .args .goals)) (now (s .args .history)) (block s)
-known s = aimed-taken (sheet s) _ _ (block s) (s .pre .0)
+known s = task-taken (sheet s) _ _ (block s) (s .pre .0)
 
 abbrev S : tie.After-links → tie.Start
 S c = c .before .before .before .before .before .before .before .before .before .before .before .before
@@ -36,7 +36,7 @@ S c = c .before .before .before .before .before .before .before .before .before 
 few : (c : tie.After-links) → entriesOf (now (c .links .result)) (now (S c .args .codes)) ≤ 320
 few c =
     let e : entriesOf (now (c .links .result)) (now (S c .args .codes)) ≡ entriesIn (sheet (S c)) = ap (λ (ns : List ℕ). entriesOf ns (now (S c .args .codes))) (c .links .ensures) in
-    omega (arith, e, aimed-counted (sheet (S c)) _ _ _ (S c .pre .0) .entries)
+    omega (arith, e, task-counted (sheet (S c)) _ _ _ (S c .pre .0) .entries)
 
 links-requires : tie.Need-links-requires
 links-requires c κs = search needs
@@ -77,7 +77,7 @@ same-length-5 : tie.Need-same-length-5
 same-length-5 c = search needs
 
 returns : tie.Need-returns
-unfolding valueIn slopesIn jointsIn linksIn posesIn
+unfolding valueIn slopesIn recordJointsIn recordLinksIn recordPosesIn
 returns c =
     let s = c .before .before .before .before .before .before .before .before .before .before .before .before .before .before .before .before .before .before .before .before .before .before .before .before .before .before .before .before .before .before .before .before in
     let a = s .args in

@@ -8,7 +8,7 @@ use Rattle.lent_bytes.specs.Lent.{roomIn, numberRoomIn, bytesOf, bytesOfNumbers
 use Rattle.lent_bytes.specs.SheetLists.{SheetLists, sheet-held, same-two}
 use Rattle.objective_bytes.specs.ObjectiveCalls.{objectiveValue, gradientSlopes}
 use Rattle.objective_bytes.specs.ObjectiveLaws.{same-four}
-use Rattle.one_block_bytes.specs.OneBlockCalls.{oneBlockNumber, jointsIn, linksIn, posesIn}
+use Rattle.one_block_bytes.specs.OneBlockCalls.{oneBlockNumber, recordJointsIn, recordLinksIn, recordPosesIn}
 use borrow.Author.Needs.{needs}
 use Rattle.one_block_bytes.proofs.slopes.gradient_one_block.Statement.{statement}
 use Rattle.one_block_bytes.proofs.slopes.gradient_one_block.Tie as tie
@@ -31,9 +31,9 @@ returns c =
         (
           w .ensures .1 .1 .0 ∙ same-four (λ s′ g′ h′ x′. ifTaken (w .result) (now (a .slopes)) (splice (now (a .slopes)) 0 (bytesOf (gradientSlopes s′ g′ h′ x′)))) z g h x,
           (
-            r .0 ∙ ap (λ (s′ : SheetLists). ifTaken (w .result) (now (a .record-joints)) (splice (now (a .record-joints)) 0 (bytesOfNumbers (jointsIn s′)))) z,
-            r .1 ∙ ap (λ (s′ : SheetLists). ifTaken (w .result) (now (a .record-links)) (splice (now (a .record-links)) 0 (bytesOfNumbers (linksIn s′)))) z,
-            r .2 ∙ same-two (λ s′ x′. ifTaken (w .result) (now (a .record-poses)) (splice (now (a .record-poses)) 0 (bytesOf (posesIn s′ x′)))) z x,
+            r .0 ∙ ap (λ (s′ : SheetLists). ifTaken (w .result) (now (a .record-joints)) (splice (now (a .record-joints)) 0 (bytesOfNumbers (recordJointsIn s′)))) z,
+            r .1 ∙ ap (λ (s′ : SheetLists). ifTaken (w .result) (now (a .record-links)) (splice (now (a .record-links)) 0 (bytesOfNumbers (recordLinksIn s′)))) z,
+            r .2 ∙ same-two (λ s′ x′. ifTaken (w .result) (now (a .record-poses)) (splice (now (a .record-poses)) 0 (bytesOf (recordPosesIn s′ x′)))) z x,
           ),
         ),
       ),

@@ -16,7 +16,7 @@ mul-result : tie.Need-mul-result
 mul-result c = search needs
 
 returns : tie.Need-returns
-returns c = omega (arith, positions-sum (now (c .before .before .args .sizes)))
+returns c = omega (arith, positions-sum (now (c .before .before .args .counts)))
 
 pub positions-length-spec : {M : Type 1} → statement M
 positions-length-spec = tie.close (tie.spec total-links-requires add-result mul-result returns)

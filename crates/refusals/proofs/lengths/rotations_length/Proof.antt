@@ -19,7 +19,7 @@ mul-result-2 : tie.Need-mul-result-2
 mul-result-2 c = search needs
 
 returns : tie.Need-returns
-returns c = omega (arith, rotations-sum (now (c .before .before .args .sizes)))
+returns c = omega (arith, rotations-sum (now (c .before .before .args .counts)))
 
 pub rotations-length-spec : {M : Type 1} → statement M
 rotations-length-spec =

@@ -8,10 +8,10 @@ use lib.Dec.{leb, eqb}
 use lib.ListN.{length, getD}
 use denote.Ref.{now}
 use borrow.Author.Tests.{lt-ltb, le-ltb, not-true, not-false}
-use Rattle.sheet.specs.Chain.{chainStart, chain-start-total, jointOf, joints, joint-last, joint-zero}
+use Rattle.sheet.specs.Chain.{chainStart, chain-start-total, jointOf, joints, joint-last, joint-zero, chainLength}
 use Rattle.refusals.specs.Range.{every, every-none, every-turn}
-use Rattle.refusals.specs.Refusal.{chainJoints, twoJoints, laterFits, badJoints}
-use Rattle.refusals.specs.Turn.{next-link, links-inside, next-joint, joint-grows, joints-here}
+use Rattle.refusals.specs.Refusal.{twoJoints, laterFits, badJoints}
+use Rattle.sheet.specs.ChainTurn.{next-link, links-inside, next-joint, joint-grows, length-here}
 use borrow.Author.Needs.{needs}
 use Rattle.refusals.proofs.shape.bad_joints.Statement.{statement}
 use Rattle.refusals.proofs.shape.bad_joints.Tie as tie
@@ -35,10 +35,10 @@ grows c =
     joint-grows _ _ (l .loop .c) (l .loop .link) (l .loop .inv .3) _ _ (l .loop .inv .4) (c .joint-number .ensures)
 
 counted : (c : tie.After-joint-number Inv-loop μ-loop)
-    → c .joint-number .result - c .before .before .before .loop .joint ≡ chainJoints (now (c .before .before .before .before .before .before .before .args .counts)) (now (c .before .before .before .before .before .before .before .args .codes)) (c .before .before .before .loop .c)
+    → c .joint-number .result - c .before .before .before .loop .joint ≡ chainLength (now (c .before .before .before .before .before .before .before .args .counts)) (now (c .before .before .before .before .before .before .before .args .codes)) (c .before .before .before .loop .c)
 counted c =
     let l = c .before .before .before in
-    joints-here _ _ (l .loop .c) (l .loop .link) (l .loop .inv .3) _ _ (l .loop .inv .4) (c .joint-number .ensures)
+    length-here _ _ (l .loop .c) (l .loop .link) (l .loop .inv .3) _ _ (l .loop .inv .4) (c .joint-number .ensures)
 
 -- ---- the end
 last : (c : tie.After-loop Inv-loop μ-loop) → c .before .loop .c ≡ length (now (c .before .before .before .before .before .args .counts))

@@ -5,7 +5,8 @@ use lib.Ieee.{Float}
 use Rattle.lent_bytes.specs.Lent.{bytesOf}
 use Rattle.lent_bytes.specs.SheetLists.{same-two}
 use Rattle.stored_answers.specs.Agree.{same-answer}
-use Rattle.replay.specs.Leaves.{leafOf, leafAgrees, quatList, vecList, leaf-standin, leaf-loss, leaf-measure, leaf-quat, leaf-vec, leaf-gram}
+use Rattle.spacetime.specs.Floats.{flatVec, flatQuat}
+use Rattle.replay.specs.Leaves.{leafOf, leafAgrees, leaf-standin, leaf-loss, leaf-measure, leaf-quat, leaf-vec, leaf-gram}
 use borrow.Author.Needs.{needs}
 use Rattle.replay.proofs.leaf_cases.leaf.Statement.{statement}
 use Rattle.replay.proofs.leaf_cases.leaf.Tie as tie
@@ -75,7 +76,7 @@ unfolding leafAgrees
 returns-4 c =
     let l = c .before .before .before .before .before .before in
     c .quat2 .ensures ∙ same-answer _ _ 1 refl (ap (λ (x : List Float). bytesOf x ∷ [])
-    (ap quatList (c .before .quat .ensures) ∙ sym (leaf-quat _ _ (c .before .before .before .if3 .left) (c .before .before .if4 .taken)) ∙ same-two leafOf (l .before .number-at .ensures .0) (l .list .ensures .0)))
+    (ap flatQuat (c .before .quat .ensures) ∙ sym (leaf-quat _ _ (c .before .before .before .if3 .left) (c .before .before .if4 .taken)) ∙ same-two leafOf (l .before .number-at .ensures .0) (l .list .ensures .0)))
 
 vec-requires : tie.Need-vec-requires
 vec-requires c κs = search needs
@@ -88,7 +89,7 @@ unfolding leafAgrees
 returns-5 c =
     let l = c .before .before .before .before .before .before .before in
     c .vec2 .ensures ∙ same-answer _ _ 1 refl (ap (λ (x : List Float). bytesOf x ∷ [])
-    (ap vecList (c .before .vec .ensures) ∙ sym (leaf-vec _ _ (c .before .before .before .if4 .left) (c .before .before .if5 .taken)) ∙ same-two leafOf (l .before .number-at .ensures .0) (l .list .ensures .0)))
+    (ap flatVec (c .before .vec .ensures) ∙ sym (leaf-vec _ _ (c .before .before .before .if4 .left) (c .before .before .if5 .taken)) ∙ same-two leafOf (l .before .number-at .ensures .0) (l .list .ensures .0)))
 
 gram-requires : tie.Need-gram-requires
 gram-requires c κs = search needs

@@ -6,7 +6,7 @@ use native.Mathlib.Omega.{arith}
 use Rattle.lent_bytes.specs.Lent.{numbersIn, floatsIn, roomIn, numberRoomIn, bytesOf, bytesOfNumbers}
 use Rattle.lent_bytes.specs.SheetLists.{same-two, same-sheet}
 use Rattle.objective_bytes.specs.ObjectiveCalls.{gradientSlopes, objectiveValue}
-use Rattle.one_block_bytes.specs.OneBlockCalls.{jointsIn, linksIn, oneBlockNumber, posesIn}
+use Rattle.one_block_bytes.specs.OneBlockCalls.{recordJointsIn, recordLinksIn, oneBlockNumber, recordPosesIn}
 use Rattle.stored_answers.specs.Same.{same-four, same-five, same-nine}
 use Rattle.stored_answers.specs.Stored.{listOf}
 use Rattle.stored_answers.specs.Agree.{filled-length, left-written, same-answer}
@@ -73,9 +73,9 @@ returns c =
     c .five .ensures ∙ same-answer _ _ objectiveOutputs n (same-five (λ a b c d e. a ∷ b ∷ c ∷ d ∷ e ∷ [])
     (w .gradient-one-block .ensures .1 .0 ∙ left-written (o objectiveOutputs) n (b .pre .1 .0) (ap bytesOf (same-four objectiveValue z g h x)))
     (w .gradient-one-block .ensures .1 .1 .0 ∙ left-written (o (objectiveOutputs + 1)) n (b .pre .1 .1) (ap bytesOf (same-four gradientSlopes z g h x)))
-    (w .gradient-one-block .ensures .1 .1 .1 .0 ∙ left-written (o (objectiveOutputs + 2)) n (b .pre .1 .2) (ap bytesOfNumbers (ap jointsIn z)))
-    (w .gradient-one-block .ensures .1 .1 .1 .1 ∙ left-written (o (objectiveOutputs + 3)) n (b .pre .1 .3) (ap bytesOfNumbers (ap linksIn z)))
-    (w .gradient-one-block .ensures .1 .1 .1 .2 ∙ left-written (o (objectiveOutputs + 4)) n (b .pre .1 .4) (ap bytesOf (same-two posesIn z x))))
+    (w .gradient-one-block .ensures .1 .1 .1 .0 ∙ left-written (o (objectiveOutputs + 2)) n (b .pre .1 .2) (ap bytesOfNumbers (ap recordJointsIn z)))
+    (w .gradient-one-block .ensures .1 .1 .1 .1 ∙ left-written (o (objectiveOutputs + 3)) n (b .pre .1 .3) (ap bytesOfNumbers (ap recordLinksIn z)))
+    (w .gradient-one-block .ensures .1 .1 .1 .2 ∙ left-written (o (objectiveOutputs + 4)) n (b .pre .1 .4) (ap bytesOf (same-two recordPosesIn z x))))
 
 pub gradient-one-block-spec : {M : Type 1} → statement M
 gradient-one-block-spec =

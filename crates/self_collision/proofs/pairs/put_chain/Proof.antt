@@ -1,34 +1,29 @@
 -- `put_chain` meets its contract: turn after turn one link's pairs more.
-use mathlib.Core.Path.{_≡_, refl, ap, _∙_}
-use mathlib.Core.List.{map}
+use mathlib.Core.Path.{_≡_, refl, sym, ap, _∙_}
 use Prim.Native.Nat.{ℕ, _+_, _-_, _≤_}
 use native.Mathlib.Omega.{arith}
 use denote.Ref.{now}
 use lib.ListN.{length}
 use Rattle.lists.specs.Splice.{splice}
-use Rattle.lists.specs.Runs.{runs, runs-none, runs-fits, splice-map-none, splice-map-more}
+use Rattle.lists.specs.Runs.{runs, runs-none, runs-fits, splice-none, splice-turn-at}
 use Rattle.manipulability.specs.View.{viewOf}
-use Rattle.self_collision.specs.Pairs.{pairsFrom, pairsOf, lossFrom, count-more, standing-turn}
+use Rattle.self_collision.specs.Pairs.{pairsFrom, pairsOf, lossFrom, lastFrom, row-length, pair-count, count-more, cached-turn}
 use Rattle.self_collision.proofs.pairs.put_chain.Statement.{statement}
 use Rattle.self_collision.proofs.pairs.put_chain.Tie as tie
 
 abbrev Inv-loop : tie.InvT-loop
-Inv-loop base tail from to first n no-number at out₀ p₀ j₀ out p j =
-    (j ≤ n - 2) × (p ≡ at + length (runs (pairsFrom n) 0 j)) × (length out ≡ length out₀)
-    × (out ≡ splice out₀ at (map (lossFrom (viewOf base tail from to) first no-number) (runs (pairsFrom n) 0 j)))
+Inv-loop base tail from to first n any-nan at out₀ p₀ j₀ out p j =
+    let f = pairsFrom (lossFrom (viewOf base tail from to) first any-nan) n in
+    (j ≤ n - 2) × (p ≡ at + length (runs f 0 j)) × (length out ≡ length out₀) × (out ≡ splice out₀ at (runs f 0 j))
 
 abbrev μ-loop : tie.MeasureT-loop
-μ-loop base tail from to first n no-number at out₀ p₀ j₀ out p j = n - j
+μ-loop base tail from to first n any-nan at out₀ p₀ j₀ out p j = n - j
 
 loop-holds : tie.Need-loop-holds Inv-loop μ-loop
 loop-holds c =
     let a = c .before .before .before .args in
-    let loss = lossFrom (viewOf (now (a .base)) (now (a .tail)) (a .from) (a .to)) (a .first) (a .no-number) in (
-      omega arith,
-      omega (arith, ap length (runs-none (pairsFrom (a .n)) 0)),
-      refl,
-      splice-map-none loss (pairsFrom (a .n)) (now (a .out)) (a .at) 0,
-    )
+    let f = pairsFrom (lossFrom (viewOf (now (a .base)) (now (a .tail)) (a .from) (a .to)) (a .first) (a .any-nan)) (a .n) in
+    (omega arith, omega (arith, ap length (runs-none f 0)), refl, splice-none f (now (a .out)) (a .at) 0)
 
 add-loop : tie.Need-add-loop Inv-loop μ-loop
 add-loop c = omega (arith, c .loop .inv .0)
@@ -39,9 +34,11 @@ put-row-requires c κs =
     let l = c .before .before in
     let s = l .before .before .before .before in
     let a = s .args in
-    let i = l .loop .inv in (
+    let i = l .loop .inv in
+    let loss = lossFrom (viewOf (now (a .base)) (now (a .tail)) (a .from) (a .to)) (a .first) (a .any-nan) in (
       (s .pre .0, omega (arith, c .before)),
-      standing-turn _ (a .from) (pairsFrom (a .n)) (now (a .out)) (l .loop .out) (a .at) (l .loop .p) 0 (a .n - 2) (l .loop .j) (l .loop .j)
+      cached-turn (pairsFrom (lastFrom (a .first)) (a .n)) (pairsFrom loss (a .n)) (λ j. row-length (lastFrom (a .first)) (a .n) j ∙ sym (row-length loss (a .n) j))
+          (a .from) (now (a .out)) (l .loop .out) (a .at) (l .loop .p) 0 (a .n - 2) (l .loop .j) (l .loop .j)
           (omega arith) (omega (arith, c .before)) (i .3) (i .1) (s .pre .1),
     )
 
@@ -60,13 +57,13 @@ loop-again c =
     let a = s .args in
     let j = l .loop .j in
     let i = l .loop .inv in
-    let f = pairsFrom (a .n) in
-    let loss = lossFrom (viewOf (now (a .base)) (now (a .tail)) (a .from) (a .to)) (a .first) (a .no-number) in
+    let loss = lossFrom (viewOf (now (a .base)) (now (a .tail)) (a .from) (a .to)) (a .first) (a .any-nan) in
+    let f = pairsFrom loss (a .n) in
     let below : j + 1 ≤ a .n - 2 = omega (arith, c .before .before .before .before) in (
       below,
-      omega (arith, w .put-row .ensures .0, i .1, count-more f j),
+      omega (arith, w .put-row .ensures .0, i .1, count-more f j, row-length loss (a .n) j),
       w .put-row .kept .1 .1 .1 .1 .1 .1 .1 .1 .1 .0 ∙ i .2,
-      splice-map-more loss f (now (a .out)) (l .loop .out) _ (a .at) (l .loop .p) 0 j j (omega arith) (i .3) (i .1)
+      splice-turn-at f (now (a .out)) (l .loop .out) _ (a .at) (l .loop .p) j (i .3) (i .1)
           (omega (arith, s .pre .1 .room, runs-fits f 0 (a .n - 2) j (omega arith))) (w .put-row .ensures .1),
     )
 
@@ -80,10 +77,11 @@ returns c =
     let s = l .before .before .before .before in
     let a = s .args in
     let i = l .loop .inv in
-    let loss = lossFrom (viewOf (now (a .base)) (now (a .tail)) (a .from) (a .to)) (a .first) (a .no-number) in
+    let loss = lossFrom (viewOf (now (a .base)) (now (a .tail)) (a .from) (a .to)) (a .first) (a .any-nan) in
+    let f = pairsFrom loss (a .n) in
     let e : l .loop .j ≡ a .n - 2 = omega (arith, i .0, c) in (
-      i .1 ∙ ap (λ (m : ℕ). a .at + length (runs (pairsFrom (a .n)) 0 m)) e,
-      i .3 ∙ ap (λ (m : ℕ). splice (now (a .out)) (a .at) (map loss (runs (pairsFrom (a .n)) 0 m))) e,
+      i .1 ∙ ap (λ (m : ℕ). a .at + length (runs f 0 m)) e ∙ ap (λ (m : ℕ). a .at + m) (pair-count loss (a .n)),
+      i .3 ∙ ap (λ (m : ℕ). splice (now (a .out)) (a .at) (runs f 0 m)) e,
     )
 
 pub put-chain-spec : {M : Type 1} → statement M

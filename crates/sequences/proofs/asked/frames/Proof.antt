@@ -6,8 +6,8 @@ use lib.ListN.{length}
 use Rattle.spacetime.specs.Frames.{positionsOf, rotationsOf}
 use Rattle.lent_bytes.specs.Lent.{bytesOf}
 use Rattle.lent_bytes.specs.SheetLists.{same-three}
-use Rattle.relaxed_ik.specs.State.{linksUsed}
-use Rattle.relaxed_ik.specs.Arms.{posesOf, framesNumberOf}
+use Rattle.state_calls.specs.State.{linksUsed}
+use Rattle.state_calls.specs.Arms.{posesOf, framesNumberOf}
 use Rattle.stored_answers.specs.Agree.{agrees-begin, agrees-on}
 use Rattle.sequences.specs.Table.{outputs}
 use Rattle.sequences.specs.Lists.{left-same}
@@ -17,7 +17,7 @@ use Rattle.sequences.proofs.asked.frames.Statement.{statement}
 use Rattle.sequences.proofs.asked.frames.Tie as tie
 use Rattle.sequences.proofs.asked.frames.Reads as reads
 use Rattle.sequences.proofs.asked.frames.Lts as lts
-use Rattle.relaxed_ik.proofs.arms.frames.Reads as frames-reads
+use Rattle.state_calls.proofs.arms.frames.Reads as frames-reads
 use Rattle.sequences.proofs.agree.floats.Reads as floats-reads
 use Rattle.sequences.proofs.agree.number.Reads as number-reads
 

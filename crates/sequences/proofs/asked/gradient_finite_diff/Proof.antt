@@ -6,7 +6,7 @@ use lib.ListN.{length}
 use Rattle.calls.specs.Answer.{valueIf}
 use Rattle.lent_bytes.specs.Lent.{bytesOf}
 use Rattle.lent_bytes.specs.SheetLists.{same-two, same-three}
-use Rattle.relaxed_ik.specs.Objective.{gradientNumberOf, objectiveValueOf, finiteDiffSlopesOf}
+use Rattle.state_calls.specs.Objective.{gradientNumberOf, objectiveValueOf, finiteDiffSlopesOf}
 use Rattle.stored_answers.specs.Agree.{same-answer, agrees-on}
 use Rattle.sequences.specs.Table.{outputs}
 use Rattle.sequences.specs.Lists.{left-same}
@@ -16,7 +16,7 @@ use Rattle.sequences.proofs.asked.gradient_finite_diff.Statement.{state
 use Rattle.sequences.proofs.asked.gradient_finite_diff.Tie as tie
 use Rattle.sequences.proofs.asked.gradient_finite_diff.Reads as reads
 use Rattle.sequences.proofs.asked.gradient_finite_diff.Lts as lts
-use Rattle.relaxed_ik.proofs.objective.gradient_finite_diff.Reads as gradient-finite-diff-reads
+use Rattle.state_calls.proofs.objective.gradient_finite_diff.Reads as gradient-finite-diff-reads
 use Rattle.sequences.proofs.agree.answered.Reads as answered-reads
 use Rattle.sequences.proofs.agree.floats.Reads as floats-reads
 

@@ -7,8 +7,8 @@ use lib.ListN.{length}
 use Rattle.calls.specs.Answer.{valueIf}
 use Rattle.lent_bytes.specs.Lent.{bytesOf, bytesOfNumbers}
 use Rattle.lent_bytes.specs.SheetLists.{same-two}
-use Rattle.relaxed_ik.specs.Objective.{objectiveValueOf, gradientSlopesOf}
-use Rattle.relaxed_ik.specs.OneBlock.{oneBlockNumberOf, recordJointsOf, recordLinksOf, recordPosesOf}
+use Rattle.state_calls.specs.Objective.{objectiveValueOf, gradientSlopesOf}
+use Rattle.state_calls.specs.OneBlock.{oneBlockNumberOf, recordJointsOf, recordLinksOf, recordPosesOf}
 use Rattle.stored_answers.specs.Same.{same-five}
 use mathlib.Core.Path.{refl}
 use Rattle.stored_answers.specs.Agree.{same-answer, agrees-on}
@@ -20,7 +20,7 @@ use Rattle.sequences.proofs.asked.gradient_one_block.Statement.{stateme
 use Rattle.sequences.proofs.asked.gradient_one_block.Tie as tie
 use Rattle.sequences.proofs.asked.gradient_one_block.Reads as reads
 use Rattle.sequences.proofs.asked.gradient_one_block.Lts as lts
-use Rattle.relaxed_ik.proofs.one_block_slopes.gradient_one_block.Reads as gradient-one-block-reads
+use Rattle.state_calls.proofs.one_block_slopes.gradient_one_block.Reads as gradient-one-block-reads
 use Rattle.sequences.proofs.agree.answered.Reads as answered-reads
 use Rattle.sequences.proofs.agree.floats.Reads as floats-reads
 use Rattle.sequences.proofs.agree.numbers.Reads as numbers-reads

@@ -5,7 +5,7 @@ use lib.Ieee.{Float}
 use Rattle.calls.specs.Answer.{valueIf}
 use Rattle.lent_bytes.specs.Lent.{bytesOf}
 use Rattle.lent_bytes.specs.SheetLists.{same-two}
-use Rattle.relaxed_ik.specs.Arms.{manipulabilityNumberOf, manipulabilityValueOf}
+use Rattle.state_calls.specs.Arms.{manipulabilityNumberOf, manipulabilityValueOf}
 use Rattle.stored_answers.specs.Agree.{same-answer}
 use Rattle.sequences.specs.Table.{outputs}
 use Rattle.sequences.specs.Asked.{manipulabilityAgrees}
@@ -14,7 +14,7 @@ use Rattle.sequences.proofs.asked.manipulability.Statement.{statement}
 use Rattle.sequences.proofs.asked.manipulability.Tie as tie
 use Rattle.sequences.proofs.asked.manipulability.Reads as reads
 use Rattle.sequences.proofs.asked.manipulability.Lts as lts
-use Rattle.relaxed_ik.proofs.arms.manipulability.Reads as manipulability-reads
+use Rattle.state_calls.proofs.arms.manipulability.Reads as manipulability-reads
 use Rattle.sequences.proofs.agree.answered.Reads as answered-reads
 
 manipulability-requires : tie.Need-manipulability-requires

@@ -5,7 +5,7 @@ use lib.Ieee.{Float}
 use Rattle.calls.specs.Answer.{valueIf}
 use Rattle.lent_bytes.specs.Lent.{bytesOf}
 use Rattle.lent_bytes.specs.SheetLists.{same-two}
-use Rattle.relaxed_ik.specs.Objective.{objectiveNumberOf, objectiveValueOf}
+use Rattle.state_calls.specs.Objective.{objectiveNumberOf, objectiveValueOf}
 use Rattle.stored_answers.specs.Agree.{same-answer}
 use Rattle.sequences.specs.Table.{outputs}
 use Rattle.sequences.specs.Asked.{objectiveAgrees}
@@ -14,7 +14,7 @@ use Rattle.sequences.proofs.asked.objective.Statement.{statement}
 use Rattle.sequences.proofs.asked.objective.Tie as tie
 use Rattle.sequences.proofs.asked.objective.Reads as reads
 use Rattle.sequences.proofs.asked.objective.Lts as lts
-use Rattle.relaxed_ik.proofs.objective.objective.Reads as objective-reads
+use Rattle.state_calls.proofs.objective.objective.Reads as objective-reads
 use Rattle.sequences.proofs.agree.answered.Reads as answered-reads
 
 objective-requires : tie.Need-objective-requires

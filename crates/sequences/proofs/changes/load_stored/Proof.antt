@@ -1,7 +1,7 @@
 -- `load_stored` meets its contract: by what its calls ensure of the decoded lists.
 use mathlib.Core.Path.{ap, _∙_}
 use Rattle.lent_bytes.specs.Lent.{numbersIn, floatsIn}
-use Rattle.relaxed_ik.specs.Load.{loadOf}
+use Rattle.state_calls.specs.Load.{loadOf}
 use Rattle.stored_answers.specs.Same.{same-four}
 use borrow.Author.Needs.{needs}
 use Rattle.sequences.proofs.changes.load_stored.Statement.{statement}
@@ -10,7 +10,7 @@ use Rattle.sequences.proofs.changes.load_stored.Reads as reads
 use Rattle.sequences.proofs.changes.load_stored.Lts as lts
 use Rattle.lent_bytes.proofs.lent.floats.Reads as floats-reads
 use Rattle.lent_bytes.proofs.lent.numbers.Reads as numbers-reads
-use Rattle.relaxed_ik.proofs.load.load.Reads as load-reads
+use Rattle.state_calls.proofs.load.load.Reads as load-reads
 use Rattle.stored_answers.proofs.stored.list.Reads as list-reads
 
 list-requires : tie.Need-list-requires

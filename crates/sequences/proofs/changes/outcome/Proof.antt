@@ -1,14 +1,14 @@
 -- `outcome` meets its contract: by the call's number.
 use mathlib.Core.Path.{ap}
 use borrow.Author.Tests.{ne-eqb}
-use Rattle.relaxed_ik.specs.declared.state.State.{State}
+use Rattle.state_calls.specs.declared.state.State.{State}
 use Rattle.sequences.specs.Changes.{outcomeAt}
 use borrow.Author.Needs.{needs}
 use Rattle.sequences.proofs.changes.outcome.Statement.{statement}
 use Rattle.sequences.proofs.changes.outcome.Tie as tie
 use Rattle.sequences.proofs.changes.outcome.Reads as reads
 use Rattle.sequences.proofs.changes.outcome.Lts as lts
-use Rattle.relaxed_ik.proofs.state.empty.Reads as empty-reads
+use Rattle.state_calls.proofs.state.empty.Reads as empty-reads
 use Rattle.sequences.proofs.changes.load_stored.Reads as load-stored-reads
 use Rattle.sequences.proofs.changes.reset.Reads as reset-reads
 use Rattle.sequences.proofs.changes.set_goals.Reads as set-goals-reads

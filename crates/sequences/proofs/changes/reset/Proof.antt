@@ -1,14 +1,14 @@
 -- `reset` meets its contract: by what its calls ensure of the decoded list.
 use mathlib.Core.Path.{ap, _∙_}
 use Rattle.lent_bytes.specs.Lent.{floatsIn}
-use Rattle.relaxed_ik.specs.Party.{resetStateOf}
+use Rattle.state_calls.specs.Party.{resetStateOf}
 use borrow.Author.Needs.{needs}
 use Rattle.sequences.proofs.changes.reset.Statement.{statement}
 use Rattle.sequences.proofs.changes.reset.Tie as tie
 use Rattle.sequences.proofs.changes.reset.Reads as reads
 use Rattle.sequences.proofs.changes.reset.Lts as lts
 use Rattle.lent_bytes.proofs.lent.floats.Reads as floats-reads
-use Rattle.relaxed_ik.proofs.party.reset.Reads as reset-reads
+use Rattle.state_calls.proofs.party.reset.Reads as reset-reads
 use Rattle.stored_answers.proofs.stored.list.Reads as list-reads
 
 list-requires : tie.Need-list-requires

@@ -1,14 +1,14 @@
 -- `set_goals` meets its contract: by what its calls ensure of the decoded list.
 use mathlib.Core.Path.{ap, _∙_}
 use Rattle.lent_bytes.specs.Lent.{floatsIn}
-use Rattle.relaxed_ik.specs.Party.{setGoalsOf}
+use Rattle.state_calls.specs.Party.{setGoalsOf}
 use borrow.Author.Needs.{needs}
 use Rattle.sequences.proofs.changes.set_goals.Statement.{statement}
 use Rattle.sequences.proofs.changes.set_goals.Tie as tie
 use Rattle.sequences.proofs.changes.set_goals.Reads as reads
 use Rattle.sequences.proofs.changes.set_goals.Lts as lts
 use Rattle.lent_bytes.proofs.lent.floats.Reads as floats-reads
-use Rattle.relaxed_ik.proofs.party.set_goals.Reads as set-goals-reads
+use Rattle.state_calls.proofs.party.set_goals.Reads as set-goals-reads
 use Rattle.stored_answers.proofs.stored.list.Reads as list-reads
 
 list-requires : tie.Need-list-requires

@@ -1,14 +1,14 @@
 -- `update` meets its contract: by what its calls ensure of the decoded list.
 use mathlib.Core.Path.{ap, _∙_}
 use Rattle.lent_bytes.specs.Lent.{floatsIn}
-use Rattle.relaxed_ik.specs.Party.{updateStateOf}
+use Rattle.state_calls.specs.Party.{updateStateOf}
 use borrow.Author.Needs.{needs}
 use Rattle.sequences.proofs.changes.update.Statement.{statement}
 use Rattle.sequences.proofs.changes.update.Tie as tie
 use Rattle.sequences.proofs.changes.update.Reads as reads
 use Rattle.sequences.proofs.changes.update.Lts as lts
 use Rattle.lent_bytes.proofs.lent.floats.Reads as floats-reads
-use Rattle.relaxed_ik.proofs.party.update.Reads as update-reads
+use Rattle.state_calls.proofs.party.update.Reads as update-reads
 use Rattle.stored_answers.proofs.stored.list.Reads as list-reads
 
 list-requires : tie.Need-list-requires

@@ -1,7 +1,7 @@
 -- `after` meets its contract: the state of the outcome.
 use mathlib.Core.Path.{ap, _∙_}
 use Prim.Native.Nat.{ℕ}
-use Rattle.relaxed_ik.specs.declared.state.Outcome.{Outcome}
+use Rattle.state_calls.specs.declared.state.Outcome.{Outcome}
 use Rattle.sequences.specs.Changes.{outcomeAt}
 use borrow.Author.Needs.{needs}
 use Rattle.sequences.proofs.steps.after.Statement.{statement}

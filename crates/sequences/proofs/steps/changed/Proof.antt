@@ -1,7 +1,7 @@
 -- `changed` meets its contract: the number of the outcome.
 use mathlib.Core.Path.{ap, _∙_}
 use mathlib.Core.List.{[]}
-use Rattle.relaxed_ik.specs.declared.state.Outcome.{Outcome}
+use Rattle.state_calls.specs.declared.state.Outcome.{Outcome}
 use Rattle.stored_answers.specs.Agree.{answerAgrees}
 use borrow.Author.Needs.{needs}
 use Rattle.sequences.proofs.steps.changed.Statement.{statement}

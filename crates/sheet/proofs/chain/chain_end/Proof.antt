@@ -10,10 +10,10 @@ use Rattle.sheet.proofs.chain.chain_end.Statement.{statement}
 use Rattle.sheet.proofs.chain.chain_end.Tie as tie
 
 abbrev Inv-loop : tie.InvT-loop
-Inv-loop sizes link k₀ s₀ c₀ k s c = (c ≤ length sizes) × (s ≤ 65535 * c) × (endIn sizes link ≡ s + endIn (drop c sizes) k)
+Inv-loop counts link k₀ s₀ c₀ k s c = (c ≤ length counts) × (s ≤ 65535 * c) × (endIn counts link ≡ s + endIn (drop c counts) k)
 
 abbrev μ-loop : tie.MeasureT-loop
-μ-loop sizes link k₀ s₀ c₀ k s c = length sizes - c
+μ-loop counts link k₀ s₀ c₀ k s c = length counts - c
 
 loop-holds : tie.Need-loop-holds Inv-loop μ-loop
 loop-holds c = (omega arith, omega arith, omega arith)
@@ -33,7 +33,7 @@ add-s c = omega (arith, c .shared-slice-known .given (c .before .before .loop .c
 returns : tie.Need-returns Inv-loop μ-loop
 returns c =
     let l = c .before .before .before in
-    omega (arith, end-inner (now (l .before .args .sizes)) (l .loop .c) (l .loop .k) (c .before .before .loop-test .taken) (c .if1 .taken))
+    omega (arith, end-inner (now (l .before .args .counts)) (l .loop .c) (l .loop .k) (c .before .before .loop-test .taken) (c .if1 .taken))
 
 add-c : tie.Need-add-c Inv-loop μ-loop
 add-c c = omega arith
@@ -46,11 +46,11 @@ loop-again c =
     let l = c .before .before .before in (
       omega arith,
       omega (arith, c .before .shared-slice-known .given (l .loop .c)),
-      omega (arith, end-next (now (l .before .args .sizes)) (l .loop .c) (l .loop .k) (c .before .before .loop-test .taken) (c .if1 .left)),
+      omega (arith, end-next (now (l .before .args .counts)) (l .loop .c) (l .loop .k) (c .before .before .loop-test .taken) (c .if1 .left)),
     )
 
 returns-2 : tie.Need-returns-2 Inv-loop μ-loop
-returns-2 c = omega (arith, end-none (now (c .before .before .args .sizes)) (c .before .loop .c) (c .loop-test .left) (c .before .loop .k))
+returns-2 c = omega (arith, end-none (now (c .before .before .args .counts)) (c .before .loop .c) (c .loop-test .left) (c .before .loop .k))
 
 pub chain-end-spec : {M : Type 1} → statement M
 chain-end-spec =

@@ -9,10 +9,10 @@ use Rattle.sheet.proofs.chain.is_first.Statement.{statement}
 use Rattle.sheet.proofs.chain.is_first.Tie as tie
 
 abbrev Inv-loop : tie.InvT-loop
-Inv-loop sizes link k₀ c₀ k c = (c ≤ length sizes) × (firstIn sizes link ≡ firstIn (drop c sizes) k)
+Inv-loop counts link k₀ c₀ k c = (c ≤ length counts) × (firstIn counts link ≡ firstIn (drop c counts) k)
 
 abbrev μ-loop : tie.MeasureT-loop
-μ-loop sizes link k₀ c₀ k c = length sizes - c
+μ-loop counts link k₀ c₀ k c = length counts - c
 
 loop-holds : tie.Need-loop-holds Inv-loop μ-loop
 loop-holds c = (omega arith, refl)

@@ -10,10 +10,10 @@ use Rattle.sheet.proofs.chain.total_links.Statement.{statement}
 use Rattle.sheet.proofs.chain.total_links.Tie as tie
 
 abbrev Inv-loop : tie.InvT-loop
-Inv-loop sizes s₀ c₀ s c = (c ≤ length sizes) × (s ≤ 65535 * c) × (total sizes ≡ s + total (drop c sizes))
+Inv-loop counts s₀ c₀ s c = (c ≤ length counts) × (s ≤ 65535 * c) × (total counts ≡ s + total (drop c counts))
 
 abbrev μ-loop : tie.MeasureT-loop
-μ-loop sizes s₀ c₀ s c = length sizes - c
+μ-loop counts s₀ c₀ s c = length counts - c
 
 loop-holds : tie.Need-loop-holds Inv-loop μ-loop
 loop-holds c = (omega arith, omega arith, omega arith)
@@ -41,11 +41,11 @@ loop-again c =
     let l = c .before .before in (
       omega arith,
       omega (arith, c .shared-slice-known .given (l .loop .c)),
-      omega (arith, total-next (now (l .before .args .sizes)) (l .loop .c) (c .before .loop-test .taken)),
+      omega (arith, total-next (now (l .before .args .counts)) (l .loop .c) (c .before .loop-test .taken)),
     )
 
 returns : tie.Need-returns Inv-loop μ-loop
-returns c = omega (arith, total-none (now (c .before .before .args .sizes)) (c .before .loop .c) (c .loop-test .left))
+returns c = omega (arith, total-none (now (c .before .before .args .counts)) (c .before .loop .c) (c .loop-test .left))
 
 pub total-links-spec : {M : Type 1} → statement M
 total-links-spec =

@@ -13,12 +13,12 @@ use Rattle.spacetime.proofs.arm.walk.Statement.{statement}
 use Rattle.spacetime.proofs.arm.walk.Tie as tie
 
 abbrev Inv-loop : tie.InvT-loop
-Inv-loop sizes codes floats block turns out₀ p₀ joint₀ at₀ out p joint at =
-    (at ≤ length codes) × (joint ≡ jointOf codes at) × (startOf sizes at p ≡ beforeOf sizes codes floats block at)
-    × (length out ≡ length out₀) × (out ≡ splice out₀ 0 (runs (poses sizes codes floats block) 0 at))
+Inv-loop counts codes floats block turns out₀ p₀ joint₀ at₀ out p joint at =
+    (at ≤ length codes) × (joint ≡ jointOf codes at) × (startOf counts at p ≡ beforeOf counts codes floats block at)
+    × (length out ≡ length out₀) × (out ≡ splice out₀ 0 (runs (poses counts codes floats block) 0 at))
 
 abbrev μ-loop : tie.MeasureT-loop
-μ-loop sizes codes floats block turns out₀ p₀ joint₀ at₀ out p joint at = length codes - at
+μ-loop counts codes floats block turns out₀ p₀ joint₀ at₀ out p joint at = length codes - at
 
 origin-requires : tie.Need-origin-requires Inv-loop μ-loop
 origin-requires c κs = tt
@@ -33,7 +33,7 @@ after-known-requires : tie.Need-after-known-requires Inv-loop μ-loop
 after-known-requires c κs =
     let l = c .before .before in
     let s = l .before .before .before .before .before .before .before .before in
-    let ns = now (s .args .sizes) in
+    let ns = now (s .args .counts) in
     let cs = now (s .args .codes) in
     let gs = now (s .args .floats) in
     let x = now (s .args .block) in
@@ -70,7 +70,7 @@ loop-again c =
     let u = w .before in
     let l = u .before .before in
     let s = l .before .before .before .before .before .before .before .before in
-    let ns = now (s .args .sizes) in
+    let ns = now (s .args .counts) in
     let cs = now (s .args .codes) in
     let gs = now (s .args .floats) in
     let x = now (s .args .block) in
@@ -95,7 +95,7 @@ returns c =
     let l = c .before in
     let s = l .before .before .before .before .before .before .before .before in
     let e : l .loop .at ≡ length (now (s .args .codes)) = omega (arith, l .loop .inv, c) in
-    l .loop .inv .4 ∙ ap (λ (n : ℕ). splice (now (s .args .out)) 0 (runs (poses (now (s .args .sizes)) (now (s .args .codes)) (now (s .args .floats)) (now (s .args .block))) 0 n)) e
+    l .loop .inv .4 ∙ ap (λ (n : ℕ). splice (now (s .args .out)) 0 (runs (poses (now (s .args .counts)) (now (s .args .codes)) (now (s .args .floats)) (now (s .args .block))) 0 n)) e
 
 pub walk-spec : {M : Type 1} → statement M
 walk-spec =

@@ -14,12 +14,12 @@ use Rattle.spacetime.proofs.arm.walk_rotations.Statement.{statement}
 use Rattle.spacetime.proofs.arm.walk_rotations.Tie as tie
 
 abbrev Inv-loop : tie.InvT-loop
-Inv-loop sizes codes floats turns₀ q₀ at₀ turns q at =
-    (at ≤ length codes) × (startTurn sizes at q ≡ metBy sizes codes floats turns₀ at)
-    × (length turns ≡ length turns₀) × (turns ≡ splice turns₀ 0 (quatsOf (rotationBy sizes codes floats turns₀) at))
+Inv-loop counts codes floats turns₀ q₀ at₀ turns q at =
+    (at ≤ length codes) × (startTurn counts at q ≡ metBy counts codes floats turns₀ at)
+    × (length turns ≡ length turns₀) × (turns ≡ splice turns₀ 0 (quatsOf (rotationBy counts codes floats turns₀) at))
 
 abbrev μ-loop : tie.MeasureT-loop
-μ-loop sizes codes floats turns₀ q₀ at₀ turns q at = length codes - at
+μ-loop counts codes floats turns₀ q₀ at₀ turns q at = length codes - at
 
 identity-requires : tie.Need-identity-requires Inv-loop μ-loop
 identity-requires c κs = tt
@@ -58,7 +58,7 @@ loop-again c =
     let g = u .before in
     let l = g .before .before .before in
     let s = l .before .before .before .before .before .before in
-    let ns = now (s .args .sizes) in
+    let ns = now (s .args .counts) in
     let cs = now (s .args .codes) in
     let gs = now (s .args .floats) in
     let ts = now (s .args .turns) in
@@ -83,7 +83,7 @@ returns c =
     let l = c .before in
     let s = l .before .before .before .before .before .before in
     let e : l .loop .at ≡ length (now (s .args .codes)) = omega (arith, l .loop .inv, c) in
-    l .loop .inv .3 ∙ ap (λ (n : ℕ). splice (now (s .args .turns)) 0 (quatsOf (rotationBy (now (s .args .sizes)) (now (s .args .codes)) (now (s .args .floats)) (now (s .args .turns))) n)) e
+    l .loop .inv .3 ∙ ap (λ (n : ℕ). splice (now (s .args .turns)) 0 (quatsOf (rotationBy (now (s .args .counts)) (now (s .args .codes)) (now (s .args .floats)) (now (s .args .turns))) n)) e
 
 pub walk-rotations-spec : {M : Type 1} → statement M
 walk-rotations-spec =

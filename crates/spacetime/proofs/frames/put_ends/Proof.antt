@@ -23,11 +23,11 @@ unfolding chainEnd listPose
 made ns r out at k from e = ap (λ (f : ℕ). splice out at (flat (poseAt r (7 * (f + getD ns k 0 - 1))))) e
 
 abbrev Inv-loop : tie.InvT-loop
-Inv-loop sizes poses out₀ from₀ c₀ out from c =
-    (c ≤ length sizes) × (from ≡ chainStart sizes c) × (length out ≡ length out₀) × (out ≡ splice out₀ 0 (runs (chainEnd sizes (listPose poses)) 0 c))
+Inv-loop counts poses out₀ from₀ c₀ out from c =
+    (c ≤ length counts) × (from ≡ chainStart counts c) × (length out ≡ length out₀) × (out ≡ splice out₀ 0 (runs (chainEnd counts (listPose poses)) 0 c))
 
 abbrev μ-loop : tie.MeasureT-loop
-μ-loop sizes poses out₀ from₀ c₀ out from c = length sizes - c
+μ-loop counts poses out₀ from₀ c₀ out from c = length counts - c
 
 loop-holds : tie.Need-loop-holds Inv-loop μ-loop
 unfolding chainStart
@@ -46,43 +46,43 @@ add-from : tie.Need-add-from Inv-loop μ-loop
 add-from c =
     let l = c .before .before in
     let s = l .before .before .before .before in
-    omega (arith, s .pre, l .loop .inv, c .before, s .pre .0 .some (l .loop .c) (omega (arith, c .before)), chain-within (now (s .args .sizes)) (l .loop .c) (omega (arith, c .before)))
+    omega (arith, s .pre, l .loop .inv, c .before, s .pre .0 .some (l .loop .c) (omega (arith, c .before)), chain-within (now (s .args .counts)) (l .loop .c) (omega (arith, c .before)))
 
 mul-put : tie.Need-mul-put Inv-loop μ-loop
 mul-put c =
     let l = c .before .before .before in
     let s = l .before .before .before .before in
-    omega (arith, s .pre, l .loop .inv, c .before .before, s .pre .0 .some (l .loop .c) (omega (arith, c .before .before)), chain-within (now (s .args .sizes)) (l .loop .c) (omega (arith, c .before .before)))
+    omega (arith, s .pre, l .loop .inv, c .before .before, s .pre .0 .some (l .loop .c) (omega (arith, c .before .before)), chain-within (now (s .args .counts)) (l .loop .c) (omega (arith, c .before .before)))
 
 sub-get : tie.Need-sub-get Inv-loop μ-loop
 sub-get c =
     let l = c .before .before .before in
     let s = l .before .before .before .before in
-    omega (arith, s .pre, l .loop .inv, c .before .before, s .pre .0 .some (l .loop .c) (omega (arith, c .before .before)), chain-within (now (s .args .sizes)) (l .loop .c) (omega (arith, c .before .before)))
+    omega (arith, s .pre, l .loop .inv, c .before .before, s .pre .0 .some (l .loop .c) (omega (arith, c .before .before)), chain-within (now (s .args .counts)) (l .loop .c) (omega (arith, c .before .before)))
 
 mul-get : tie.Need-mul-get Inv-loop μ-loop
 mul-get c =
     let l = c .before .before .before in
     let s = l .before .before .before .before in
-    omega (arith, s .pre, l .loop .inv, c .before .before, s .pre .0 .some (l .loop .c) (omega (arith, c .before .before)), chain-within (now (s .args .sizes)) (l .loop .c) (omega (arith, c .before .before)))
+    omega (arith, s .pre, l .loop .inv, c .before .before, s .pre .0 .some (l .loop .c) (omega (arith, c .before .before)), chain-within (now (s .args .counts)) (l .loop .c) (omega (arith, c .before .before)))
 
 get-requires : tie.Need-get-requires Inv-loop μ-loop
 get-requires c κs =
     let l = c .before .before .before in
     let s = l .before .before .before .before in
-    omega (arith, s .pre, l .loop .inv, c .before .before, s .pre .0 .some (l .loop .c) (omega (arith, c .before .before)), chain-within (now (s .args .sizes)) (l .loop .c) (omega (arith, c .before .before)))
+    omega (arith, s .pre, l .loop .inv, c .before .before, s .pre .0 .some (l .loop .c) (omega (arith, c .before .before)), chain-within (now (s .args .counts)) (l .loop .c) (omega (arith, c .before .before)))
 
 put-requires : tie.Need-put-requires Inv-loop μ-loop
 put-requires c κs =
     let l = c .before .before .before .before in
     let s = l .before .before .before .before in
-    omega (arith, s .pre, l .loop .inv, c .before .before .before, s .pre .0 .some (l .loop .c) (omega (arith, c .before .before .before)), chain-within (now (s .args .sizes)) (l .loop .c) (omega (arith, c .before .before .before)))
+    omega (arith, s .pre, l .loop .inv, c .before .before .before, s .pre .0 .some (l .loop .c) (omega (arith, c .before .before .before)), chain-within (now (s .args .counts)) (l .loop .c) (omega (arith, c .before .before .before)))
 
 add-c : tie.Need-add-c Inv-loop μ-loop
 add-c c =
     let l = c .before .before .before .before .before .before .before in
     let s = l .before .before .before .before in
-    omega (arith, s .pre, l .loop .inv, c .before .before .before .before .before .before, s .pre .0 .some (l .loop .c) (omega (arith, c .before .before .before .before .before .before)), chain-within (now (s .args .sizes)) (l .loop .c) (omega (arith, c .before .before .before .before .before .before)))
+    omega (arith, s .pre, l .loop .inv, c .before .before .before .before .before .before, s .pre .0 .some (l .loop .c) (omega (arith, c .before .before .before .before .before .before)), chain-within (now (s .args .counts)) (l .loop .c) (omega (arith, c .before .before .before .before .before .before)))
 
 loop-less : tie.Need-loop-less Inv-loop μ-loop
 loop-less c = omega (arith, c .before .before .before .before .before .before)
@@ -91,7 +91,7 @@ loop-again : tie.Need-loop-again Inv-loop μ-loop
 loop-again c =
     let l = c .before .before .before .before .before .before .before in
     let s = l .before .before .before .before in
-    let ns = now (s .args .sizes) in
+    let ns = now (s .args .counts) in
     let r = now (s .args .poses) in
     let k = l .loop .c in
     let n : length (runs (chainEnd ns (listPose r)) 0 k) ≡ k * 7 = length-runs (chainEnd ns (listPose r)) 7 (end-length ns (listPose r)) 0 k in
@@ -111,8 +111,8 @@ unfolding endsOf
 returns c =
     let l = c .before in
     let s = l .before .before .before .before in
-    let e : l .loop .c ≡ length (now (s .args .sizes)) = omega (arith, l .loop .inv, c) in
-    l .loop .inv .3 ∙ ap (λ (k : ℕ). splice (now (s .args .out)) 0 (runs (chainEnd (now (s .args .sizes)) (listPose (now (s .args .poses)))) 0 k)) e
+    let e : l .loop .c ≡ length (now (s .args .counts)) = omega (arith, l .loop .inv, c) in
+    l .loop .inv .3 ∙ ap (λ (k : ℕ). splice (now (s .args .out)) 0 (runs (chainEnd (now (s .args .counts)) (listPose (now (s .args .poses)))) 0 k)) e
 
 pub put-ends-spec : {M : Type 1} → statement M
 put-ends-spec =

@@ -1,2 +1,0 @@
-pub mod Aimed
-pub mod Rows

@@ -1,3 +1,0 @@
-pub mod Room
-pub mod Rows
-pub mod Agree

@@ -1,0 +1,101 @@
+-- The objective and its gradients, by the state.
+use mathlib.Core.Path.{_≡_, refl, ap, _∙_}
+use mathlib.Core.Bool.{true}
+use mathlib.Core.List.{List}
+use Prim.Native.Nat.{ℕ}
+use native.Mathlib.Omega.{arith}
+use lib.Ieee.{Float}
+use lib.ListN.{length}
+use Rattle.lists.specs.Splice.{splice}
+use Rattle.task.specs.Task.{taskLength, Given}
+use Rattle.task.specs.Laid.{Apart, Fit, Full, laid, givenApart, laid-given}
+use Rattle.objective_master.specs.Weights.{weightPriors, weights-eight}
+use Rattle.gradient.specs.declared.slopes.Rule.{Rule}
+use Rattle.gradient.specs.Gradient.{valueAt, slopesOf, gradientOf, finiteDiffOf}
+use Rattle.calls.specs.Arms.{Accepted, ifTaken}
+use Rattle.calls.specs.Answer.{valueIf}
+use Rattle.state_calls.specs.declared.state.State.{State}
+use Rattle.state_calls.specs.State.{linksUsed, codesUsed, floatsUsed, limitsUsed, goalsUsed, blockUsed, haveSheet}
+use Rattle.state_calls.specs.StoredSheet.{stored-accepted}
+use Rattle.state_calls.specs.StoredTask.{objectiveStored, slopesStored, afterState, givenStored, apartOf, state-have, value-under, taken-under}
+
+-- what the objectives look at: the sheet, the built-in weights, and of the stored lists what is in use
+unfoldable pub givenState : State → Given
+givenState s =
+    let ss = s .arms .sizes in
+    let cs = s .arms .codes in
+    let h = s .party .history in
+    record {
+      counts = linksUsed ss;
+      codes = codesUsed ss cs;
+      weights = weightPriors;
+      limits = limitsUsed ss cs (s .arms .limits);
+      goals = goalsUsed ss (s .party .goals);
+      xopt = blockUsed ss cs (h .xopt);
+      «prev_state» = blockUsed ss cs (h .«prev_state»);
+      «prev_state2» = blockUsed ss cs (h .«prev_state2»);
+    }
+
+abbrev pub linkFloats : State → List Float
+linkFloats s = floatsUsed (s .arms .sizes) (s .arms .floats)
+
+-- the objective's number and its value
+abbrev pub objectiveNumberOf : State → List Float → ℕ
+objectiveNumberOf s x = objectiveStored (s .arms .sizes) (s .arms .codes) (s .party .«has_goals») (s .party .started) x
+
+abbrev pub objectiveValueOf : State → List Float → Float
+objectiveValueOf s x = valueAt (givenState s) (linkFloats s) x
+
+-- the number of either gradient, lent scratch and slopes of so many floats; and the slopes of each
+abbrev pub gradientNumberOf : State → List Float → ℕ → ℕ → ℕ
+gradientNumberOf s x scratch slopes = slopesStored (s .arms .sizes) (s .arms .codes) (s .party .«has_goals») (s .party .started) x scratch slopes
+
+abbrev pub gradientSlopesOf : State → List Float → List Float
+gradientSlopesOf s x = gradientOf (givenState s) (linkFloats s) x
+
+abbrev pub finiteDiffSlopesOf : State → List Float → List Float
+finiteDiffSlopesOf s x = finiteDiffOf (givenState s) (linkFloats s) x
+
+-- the lengths of the state's arrays that the objective reads
+pub record Lists (s : State) : Type 0 where
+  pub sizes : length (s .arms .sizes) ≡ 5
+  pub codes : length (s .arms .codes) ≡ 64
+  pub floats : length (s .arms .floats) ≡ 448
+  pub limits : length (s .arms .limits) ≡ 32
+  pub goals : length (s .party .goals) ≡ 52
+  pub xopt : length (s .party .history .xopt) ≡ 16
+  pub «prev_state» : length (s .party .history .«prev_state») ≡ 16
+  pub «prev_state2» : length (s .party .history .«prev_state2») ≡ 16
+
+-- ---- laws: a call that is taken sees this in the list that the stored arrays are laid in
+given-apart : (s : State) → givenApart (linksUsed (s .arms .sizes)) (codesUsed (s .arms .sizes) (s .arms .codes)) (apartOf (s .arms .limits) (s .party)) ≡ givenState s
+unfolding givenApart givenState limitsUsed goalsUsed blockUsed weightPriors
+given-apart s = refl
+
+module _ (s : State) (t task : List Float) (l : Lists s) (whole : length t ≡ taskLength) (e : task ≡ laid (apartOf (s .arms .limits) (s .party)) t) where
+  abbrev ss : List ℕ
+  ss = s .arms .sizes
+
+  abbrev cs : List ℕ
+  cs = s .arms .codes
+
+  given-laid : haveSheet ss cs ≡ true → givenStored ss cs task ≡ givenState s
+  unfolding givenStored
+  given-laid have =
+      let a : Apart = apartOf (s .arms .limits) (s .party) in
+      let p : Accepted (linksUsed ss) (codesUsed ss cs) (floatsUsed ss (s .arms .floats)) = stored-accepted ss cs (s .arms .floats) (l .codes) (l .floats) have in
+      let fit : Fit a = record { weights = omega (arith, weights-eight); limits = omega (arith, l .limits); goals = omega (arith, l .goals); xopt = omega (arith, l .xopt); «prev_state» = omega (arith, l .«prev_state»); «prev_state2» = omega (arith, l .«prev_state2») } in
+      let full : Full (linksUsed ss) (codesUsed ss cs) a = record { weights = omega (arith, weights-eight); limits = omega (arith, l .limits, p .few); goals = omega (arith, l .goals, p .chains .few); xopt = omega (arith, l .xopt, p .few); «prev_state» = omega (arith, l .«prev_state», p .few); «prev_state2» = omega (arith, l .«prev_state2», p .few) } in
+      ap (givenStored ss cs) e ∙ laid-given a t whole fit (linksUsed ss) (codesUsed ss cs) full (p .chains .few) (p .few) ∙ given-apart s
+
+  -- so does a call with number n, whose own number is m
+  module _ (x : List Float) (m n : ℕ) (number : n ≡ afterState ss cs (s .party .«has_goals») (s .party .started) m) where
+    given-taken : n ≡ 0 → givenStored ss cs task ≡ givenState s
+    given-taken z = given-laid (state-have ss cs (s .party .«has_goals») (s .party .started) m n number z)
+
+    pub value-laid : valueIf n (valueAt (givenStored ss cs task) (linkFloats s) x) ≡ valueIf n (objectiveValueOf s x)
+    value-laid = value-under n _ _ (λ z. ap (λ (g : Given). valueAt g (linkFloats s) x) (given-taken z))
+
+    pub slopes-laid : (rule : Rule) (old : List Float)
+        → ifTaken n old (splice old 0 (slopesOf rule (givenStored ss cs task) (linkFloats s) x)) ≡ ifTaken n old (splice old 0 (slopesOf rule (givenState s) (linkFloats s) x))
+    slopes-laid rule old = taken-under n old _ _ (λ z. ap (λ (g : Given). splice old 0 (slopesOf rule g (linkFloats s) x)) (given-taken z))
