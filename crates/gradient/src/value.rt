@@ -57,11 +57,18 @@ pub fn value_of(
     weights::weighted_sum(parts::weights(task), kinds, out)
 }
 
-pub fn objective(counts: &[u16], codes: &[u16], floats: &[f64], task: &[f64], x: &[f64]) -> f64
-    requires { ⌜ Ready (now counts) (now codes) (now task) (now floats) (now x) ⌝ }
+// The objective's value, with a list for the poses.
+fn objective_in(
+    counts: &[u16],
+    codes: &[u16],
+    floats: &[f64],
+    task: &[f64],
+    x: &[f64],
+    poses: &mut [f64],
+) -> f64
+    requires { ⌜ Ready (now counts) (now codes) (now task) (now floats) (now x) × (7 * length (now codes) ≤ length (now poses)) ⌝ }
     ensures { λ r. ⌜ r ≡ valueAt (givenIn counts codes task) (now (floats .entry)) (now (x .entry)) ⌝ }
 {
-    let mut poses = [0.0; 448];
     let mut losses = [0.0; 131];
     let mut kinds = [0u16; 131];
     let n = relaxed_ik::relaxed_ik(counts, codes, &mut kinds);
@@ -72,7 +79,20 @@ pub fn objective(counts: &[u16], codes: &[u16], floats: &[f64], task: &[f64], x:
         task,
         x,
         &kinds[..n],
-        &mut poses,
+        poses,
         &mut losses,
     )
+}
+
+// A list is set to zero at every call, so a sheet of few links gets a short one.
+pub fn objective(counts: &[u16], codes: &[u16], floats: &[f64], task: &[f64], x: &[f64]) -> f64
+    requires { ⌜ Ready (now counts) (now codes) (now task) (now floats) (now x) ⌝ }
+    ensures { λ r. ⌜ r ≡ valueAt (givenIn counts codes task) (now (floats .entry)) (now (x .entry)) ⌝ }
+{
+    if codes.len() <= 16 {
+        let mut few = [0.0; 112];
+        return objective_in(counts, codes, floats, task, x, &mut few);
+    }
+    let mut poses = [0.0; 448];
+    objective_in(counts, codes, floats, task, x, &mut poses)
 }

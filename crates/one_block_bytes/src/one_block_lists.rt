@@ -17,7 +17,7 @@ ghost use Rattle.lent_bytes.specs.SheetLists.{sheetWith, sheetOf, roomOf};
 ghost use Rattle.arm_bytes.specs.ArmCalls.{outputOf};
 ghost use Rattle.objective_bytes.specs.ObjectiveCalls.{taskNumber, valueIn, objectiveValue, gradientSlopes};
 ghost use Rattle.one_block_bytes.specs.OneBlockCalls.{entriesIn, oneBlockNumber, numberRoomOf, RecordHeld, RecordWritten};
-ghost use Rattle.one_block_bytes.specs.OneBlockLaws.{Counted};
+ghost use Rattle.one_block_bytes.specs.OneBlockLaws.{Counted, Fitted};
 
 fn entries(sizes: &[u16], codes: &[u16], floats: &[f64], limits: &[f64]) -> usize
     requires { ⌜ Counted (sheetWith (now sizes) (now codes) (now floats) (now limits)) ⌝ }
@@ -83,7 +83,8 @@ fn one_block_on(
     record_poses: &mut [f64],
 ) -> f64
     requires { ⌜ taskNumber (sheetWith (now sizes) (now codes) (now floats) (now limits)) (now goals) (now history) (now block) ≡ 0 ⌝ }
-    requires { ⌜ (length (now slopes) ≡ 16) × (length (now «record_joints») ≡ 320) × (length (now «record_links») ≡ 320) × (length (now «record_poses») ≡ 2240) ⌝ }
+    requires { ⌜ (length (now slopes) ≡ 16) × (length (now «record_joints») ≡ 320) × (length (now «record_links») ≡ 320) ⌝ }
+    requires { ⌜ 7 * entriesIn (sheetWith (now sizes) (now codes) (now floats) (now limits)) ≤ length (now «record_poses») ⌝ }
     ensures { λ r. ⌜ r ≡ valueIn (sheetOf sizes codes floats limits) (lent goals) (lent history) (lent block) ⌝ }
     ensures { λ _. ⌜ now (block .exit) ≡ now (block .entry) ⌝ }
     ensures { λ _. ⌜ now (slopes .exit) ≡ splice (lent slopes) 0 (gradientSlopes (sheetOf sizes codes floats limits) (lent goals) (lent history) (lent block)) ⌝ }
@@ -138,6 +139,59 @@ fn put_record(
     bytes_lent::put_floats(&poses[..wide], 0, record_poses);
 }
 
+// Value, slopes and record of an accepted call, as bytes; the poses pass through a lent list.
+fn put_one_block(
+    sizes: &[u16],
+    codes: &[u16],
+    floats: &[f64],
+    limits: &[f64],
+    goals: &[f64],
+    history: &[f64],
+    block: &mut [f64],
+    poses: &mut [f64],
+    value: &mut [u8],
+    slopes: &mut [u8],
+    record_joints: &mut [u8],
+    record_links: &mut [u8],
+    record_poses: &mut [u8],
+)
+    requires { ⌜ Fitted (sheetWith (now sizes) (now codes) (now floats) (now limits)) (now goals) (now history) (now block)
+        (length (now value)) (length (now slopes)) (length (now «record_joints»)) (length (now «record_links»)) (length (now «record_poses»)) ⌝ }
+    requires { ⌜ 7 * entriesIn (sheetWith (now sizes) (now codes) (now floats) (now limits)) ≤ length (now poses) ⌝ }
+    ensures { λ _. ⌜ now (value .exit) ≡ outputOf 0 value (objectiveValue (sheetOf sizes codes floats limits) (lent goals) (lent history) (lent block)) ⌝ }
+    ensures { λ _. ⌜ now (slopes .exit) ≡ outputOf 0 slopes (gradientSlopes (sheetOf sizes codes floats limits) (lent goals) (lent history) (lent block)) ⌝ }
+    ensures { λ _. ⌜ RecordWritten 0 (sheetOf sizes codes floats limits) (lent block) «record_joints» «record_links» «record_poses» ⌝ }
+{
+    let mut d = [0.0; 16];
+    let mut rj = [0u16; 320];
+    let mut rl = [0u16; 320];
+    let v = one_block_on(
+        sizes,
+        codes,
+        floats,
+        limits,
+        goals,
+        history,
+        block,
+        &mut d,
+        &mut rj,
+        &mut rl,
+        poses,
+    );
+    put_slopes(v, &d, block.len(), value, slopes);
+    let m = entries(sizes, codes, floats, limits);
+    put_record(
+        &rj,
+        &rl,
+        poses,
+        m,
+        record_joints,
+        record_links,
+        record_poses,
+    );
+}
+
+// The local list of poses is zeroed at every call, so it has one of two sizes: room for 80 entries, or for the most, 320.
 pub(crate) fn gradient_one_block(
     sizes: &[u16],
     codes: &[u16],
@@ -175,11 +229,27 @@ pub(crate) fn gradient_one_block(
     if number != 0 {
         return number;
     }
-    let mut d = [0.0; 16];
-    let mut rj = [0u16; 320];
-    let mut rl = [0u16; 320];
-    let mut rp = [0.0; 2240];
-    let v = one_block_on(
+    if entries(sizes, codes, floats, limits) <= 80 {
+        let mut few = [0.0; 560];
+        put_one_block(
+            sizes,
+            codes,
+            floats,
+            limits,
+            goals,
+            history,
+            block,
+            &mut few,
+            value,
+            slopes,
+            record_joints,
+            record_links,
+            record_poses,
+        );
+        return 0;
+    }
+    let mut most = [0.0; 2240];
+    put_one_block(
         sizes,
         codes,
         floats,
@@ -187,13 +257,12 @@ pub(crate) fn gradient_one_block(
         goals,
         history,
         block,
-        &mut d,
-        &mut rj,
-        &mut rl,
-        &mut rp,
+        &mut most,
+        value,
+        slopes,
+        record_joints,
+        record_links,
+        record_poses,
     );
-    put_slopes(v, &d, block.len(), value, slopes);
-    let m = entries(sizes, codes, floats, limits);
-    put_record(&rj, &rl, &rp, m, record_joints, record_links, record_poses);
     0
 }

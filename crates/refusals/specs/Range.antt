@@ -86,3 +86,28 @@ every-join f m zero = let z : m + 0 ≡ m = omega arith in rw z (and-right (ever
 every-join f m (suc n) =
     let e : m + suc n ≡ suc (m + n) = omega arith in
     ap (every f) e ∙ ap (λ (b : Bool). b && f (m + n)) (every-join f m n) ∙ and-assoc (every f m) (every (λ (i : ℕ). f (m + i)) n) (f (m + n))
+
+every-all : (n : ℕ) → every (λ (i : ℕ). true) n ≡ true
+unfolding every
+every-all zero = refl
+every-all (suc n) = ap (λ (b : Bool). b && true) (every-all n)
+
+and-swap : (a b c d : Bool) → ((a && b) && (c && d)) ≡ ((a && c) && (b && d))
+and-swap false b c d = refl
+and-swap true false true d = refl
+and-swap true false false d = refl
+and-swap true true c d = refl
+
+-- two tests of a run are one test of each
+pub every-both : (f g : ℕ → Bool) (n : ℕ) → (every f n && every g n) ≡ every (λ (i : ℕ). f i && g i) n
+unfolding every
+every-both f g zero = refl
+every-both f g (suc n) =
+    and-swap (every f n) (f n) (every g n) (g n) ∙ ap (λ (b : Bool). b && (f n && g n)) (every-both f g n)
+
+-- run by run is place by place
+pub every-across : (f : ℕ → ℕ → Bool) (m n : ℕ) → every (λ (b : ℕ). every (f b) n) m ≡ every (λ (i : ℕ). every (λ (b : ℕ). f b i) m) n
+unfolding every
+every-across f zero n = sym (every-all n)
+every-across f (suc m) n =
+    ap (λ (b : Bool). b && every (f m) n) (every-across f m n) ∙ every-both (λ (i : ℕ). every (λ (b : ℕ). f b i) m) (f m) n

@@ -5,12 +5,13 @@ use sheet::chain;
 use sheet::code;
 use sheet::reader;
 ghost use mathlib.Core.Path.{_≡_};
-ghost use Prim.Native.Nat.{_+_, _*_, _≤_};
+ghost use Prim.Native.Nat.{ℕ, _+_, _*_, _≤_};
 ghost use lib.ListN.{length};
+ghost use Rattle.refusals.specs.Range.{every};
 ghost use Rattle.refusals.specs.Lowest.{firstOf};
 ghost use Rattle.sheet.specs.Chain.{jointsOf};
 ghost use Rattle.refusals.specs.Lengths.{blockLength};
-ghost use Rattle.refusals.specs.Refusal.{jointFits, valueFits, blockFits, blockRefusal, historyRefusal, goalFits, goalsRefusal, roomRefusal};
+ghost use Rattle.refusals.specs.Refusal.{jointFits, valueFits, blockFits, blockRefusal, historyFits, historyRefusal, goalFits, goalsRefusal, roomRefusal};
 
 pub fn first_of(a: u16, b: u16) -> u16
     ensures { λ r. ⌜ r ≡ firstOf a b ⌝ }
@@ -63,21 +64,50 @@ pub fn block_refusal(codes: &[u16], block: &[f64]) -> u16
     7
 }
 
+// Whether a link's joint is in its range in each of a history's four blocks, n values apart.
+fn joint_history_fits(code: u16, history: &[f64], j: usize, n: usize) -> bool
+    requires { ⌜ 3 * n + j + jointsOf code ≤ length (now history) ⌝ }
+    ensures { λ r. ⌜ r ≡ every (λ (b : ℕ). valueFits code (now (history .entry)) (b * n + j)) 4 ⌝ }
+{
+    if !code::has_joint(code) {
+        return true;
+    }
+    let one = joint_fits(code, history[j]);
+    let two = range::both(one, joint_fits(code, history[n + j]));
+    let three = range::both(two, joint_fits(code, history[2 * n + j]));
+    range::both(three, joint_fits(code, history[3 * n + j]))
+}
+
+// Whether every joint of a history's four blocks is in its range, in one pass over the links.
+fn history_fits(codes: &[u16], history: &[f64], n: usize) -> bool
+    requires { ⌜ (n ≡ blockLength (now codes)) × (4 * n ≤ length (now history)) ⌝ }
+    ensures { λ r. ⌜ r ≡ every (historyFits (now (codes .entry)) (now (history .entry))) 4 ⌝ }
+{
+    let mut ok = true;
+    let mut j: usize = 0;
+    let mut l: usize = 0;
+    while l < codes.len() {
+        let code = reader::read(codes, l);
+        ok = range::both(ok, joint_history_fits(code, history, j, n));
+        j = chain::next_joint(codes, l, j);
+        l += 1;
+    }
+    ok
+}
+
 // A history is four joint blocks.
 pub fn history_refusal(codes: &[u16], history: &[f64]) -> u16
     ensures { λ r. ⌜ r ≡ historyRefusal (now (codes .entry)) (now (history .entry)) ⌝ }
 {
     let n = lengths::block_length(codes);
-    if history.len() != lengths::history_length(codes) {
+    if history.len() != 4 * n {
         return 7;
     }
-    let mut ok = true;
-    let mut b: usize = 0;
-    while b < 4 {
-        ok = range::both(ok, block_fits(codes, history, b * n));
-        b += 1;
+    if history_fits(codes, history, n) {
+        0
+    } else {
+        7
     }
-    if ok { 0 } else { 7 }
 }
 
 fn goal_fits(goals: &[f64], chain: usize) -> bool

@@ -1,27 +1,19 @@
 -- `gradient_one_block` meets its contract: a refusal writes nothing; else the outputs are the bytes of value, slopes and record.
-use mathlib.Core.Path.{refl, sym, ap, _∙_}
-use mathlib.Core.List.{List, [], _∷_}
-use Prim.Native.Nat.{ℕ, _*_}
+use mathlib.Core.Path.{sym, _∙_}
+use mathlib.Core.List.{List}
 use native.Mathlib.Omega.{arith}
 use denote.Ref.{now}
 use lib.Ieee.{Float}
 use lib.ListN.{length}
-use Rattle.lists.specs.Splice.{splice}
-use Rattle.gradient.specs.declared.slopes.Rule.the-variants.{EachLoss}
-use Rattle.calls.specs.Arms.{taken, refused}
-use Rattle.lent_bytes.specs.Lent.{front, bytesOf, bytesOfNumbers}
+use Rattle.calls.specs.Arms.{refused}
 use Rattle.lent_bytes.specs.SheetLists.{SheetLists, sheetWith}
-use Rattle.objective_bytes.specs.ObjectiveLaws.{slopes-in-length}
-use Rattle.one_block_bytes.specs.OneBlockCalls.{recordJointsIn, recordLinksIn, recordPosesIn}
-use Rattle.one_block_bytes.specs.OneBlockLaws.{Fitted, one-block-fitted, task-counted, joints-in-length, links-in-length, poses-in-length}
+use Rattle.one_block_bytes.specs.OneBlockLaws.{Fitted, one-block-fitted, task-counted}
 use borrow.Author.Needs.{needs}
 use Rattle.one_block_bytes.proofs.one_block_lists.gradient_one_block.Statement.{statement}
 use Rattle.one_block_bytes.proofs.one_block_lists.gradient_one_block.Tie as tie
 use Rattle.one_block_bytes.proofs.one_block_lists.entries.Reads as entries-reads
 use Rattle.one_block_bytes.proofs.one_block_lists.one_block_number.Reads as one-block-number-reads
-use Rattle.one_block_bytes.proofs.one_block_lists.one_block_on.Reads as one-block-on-reads
-use Rattle.one_block_bytes.proofs.one_block_lists.put_record.Reads as put-record-reads
-use Rattle.one_block_bytes.proofs.one_block_lists.put_slopes.Reads as put-slopes-reads
+use Rattle.one_block_bytes.proofs.one_block_lists.put_one_block.Reads as put-one-block-reads
 
 abbrev sheet : tie.Start → SheetLists
 sheet s = sheetWith (now (s .args .sizes)) (now (s .args .codes)) (now (s .args .floats)) (now (s .args .limits))
@@ -49,53 +41,16 @@ returns c =
     let t = c .if1 .taken in
     (c .before .one-block-number .ensures, (sym (refused n _ _ t), (sym (refused n _ _ t), (sym (refused n _ _ t), sym (refused n _ _ t), sym (refused n _ _ t)))))
 
-slice-aggregate-one-block-on : tie.Need-slice-aggregate-one-block-on
-slice-aggregate-one-block-on c = search needs
-
-slice-aggregate-one-block-on-2 : tie.Need-slice-aggregate-one-block-on-2
-slice-aggregate-one-block-on-2 c = search needs
-
-slice-aggregate-one-block-on-3 : tie.Need-slice-aggregate-one-block-on-3
-slice-aggregate-one-block-on-3 c = search needs
-
-slice-aggregate-one-block-on-4 : tie.Need-slice-aggregate-one-block-on-4
-slice-aggregate-one-block-on-4 c = search needs
-
-one-block-on-requires : tie.Need-one-block-on-requires
-one-block-on-requires c κs = (fitted (c .before .before .before .before .before) .accepted, (refl, refl, refl, refl))
-
-slice-aggregate-put-slopes : tie.Need-slice-aggregate-put-slopes
-slice-aggregate-put-slopes c = search needs
-
-put-slopes-requires : tie.Need-put-slopes-requires
-put-slopes-requires c κs =
-    let e = c .before .before .before .before .before .before .before .before .before .before .before .before .before .before .before in
-    let t = fitted e in
-    let g = c .before .before .before .before .before .before .before .before .before .one-block-on .kept .1 .1 .1 .1 .1 .1 in
-    (omega (arith, t .few, g .0, g .1 .0), t .value-room, omega (arith, t .slopes-room, g .0))
-
 entries-requires : tie.Need-entries-requires
-entries-requires c κs =
-    let e = c .before .before .before .before .before .before .before .before .before .before .before .before .before .before .before .before .before .before .before .before in
-    task-counted (sheet (S e)) _ _ _ (fitted e .accepted)
+entries-requires c κs = task-counted (sheet (S c)) _ _ _ (fitted c .accepted)
 
-slice-aggregate-put-record : tie.Need-slice-aggregate-put-record
-slice-aggregate-put-record c = search needs
+slice-aggregate-put-one-block : tie.Need-slice-aggregate-put-one-block
+slice-aggregate-put-one-block c = search needs
 
-slice-aggregate-put-record-2 : tie.Need-slice-aggregate-put-record-2
-slice-aggregate-put-record-2 c = search needs
-
-slice-aggregate-put-record-3 : tie.Need-slice-aggregate-put-record-3
-slice-aggregate-put-record-3 c = search needs
-
-put-record-requires : tie.Need-put-record-requires
-put-record-requires c κs =
-    let t = fitted (c .before .before .before .before .before .before .before .before .before .before .before .before .before .before .before .before .before .before .before .before .before .before .before .before .before .before .before) in
-    let g = c .before .before .before .before .before .before .before .before .before .before .before .before .before .before .before .before .before .before .before .before .before .one-block-on in
-    let m = c .before .before .before .before .before .before .entries .ensures in (
-      (omega (arith, m, t .entries, g .kept .1 .1 .1 .1 .1 .1 .1 .1 .0), omega (arith, m, t .entries, g .kept .1 .1 .1 .1 .1 .1 .1 .1 .1 .0), omega (arith, m, t .entries, g .kept .1 .1 .1 .1 .1 .1 .1 .1 .1 .1 .0)),
-      (omega (arith, m, t .joints-room), omega (arith, m, t .links-room), omega (arith, m, t .poses-room)),
-    )
+put-one-block-requires : tie.Need-put-one-block-requires
+put-one-block-requires c κs =
+    let u = c .before .before .before .before .before .before .before in
+    (fitted (u .before .before), omega (arith, u .if2 .taken, u .before .entries .ensures))
 
 same-length-2 : tie.Need-same-length-2
 same-length-2 c = search needs
@@ -117,28 +72,39 @@ same-length-7 c = search needs
 
 returns-2 : tie.Need-returns-2
 returns-2 c =
-    let e = c .before .before .before .before .before .before .before .before .before .before .before .before .before .before .before .before .before .before .before .before .before .before .before .before .before .before .before .before .before .before .before .before .before .before in
-    let s = S e in
-    let a = s .args in
-    let m = c .before .before .before .before .before .before .before .before .before .before .before .before .before .entries .ensures in
-    let g = c .before .before .before .before .before .before .before .before .before .before .before .before .before .before .before .before .before .before .before .before .before .before .before .before .before .before .before .before .one-block-on .ensures in
-    let p = c .before .before .before .before .before .before .before .before .before .before .before .before .before .before .before .before .before .before .put-slopes .ensures in
-    let q = c .before .before .before .before .before .before .put-record .ensures in
-    let l = slopes-in-length EachLoss (sheet s) (now (a .goals)) (now (a .history)) (block s) ∙ sym (ap length (g .1 .0)) in (
-      sym (sym (e .before .one-block-number .ensures) ∙ e .if1 .left),
-      (
-        p .0 ∙ ap (λ (v : Float). splice (now (a .value)) 0 (bytesOf (v ∷ []))) (g .0) ∙ sym (taken 0 _ _ refl),
-        (
-          p .1 ∙ ap (λ (y : List Float). splice (now (a .slopes)) 0 (bytesOf y)) (front _ _ _ _ (g .1 .1 .0) l) ∙ sym (taken 0 _ _ refl),
-          (
-            q .0 ∙ ap (λ (y : List ℕ). splice (now (a .record-joints)) 0 (bytesOfNumbers y)) (front _ _ (recordJointsIn (sheet s)) _ (g .1 .1 .1 .0) (joints-in-length (sheet s) ∙ sym m)) ∙ sym (taken 0 _ _ refl),
-            q .1 .0 ∙ ap (λ (y : List ℕ). splice (now (a .record-links)) 0 (bytesOfNumbers y)) (front _ _ (recordLinksIn (sheet s)) _ (g .1 .1 .1 .1) (links-in-length (sheet s) ∙ sym m)) ∙ sym (taken 0 _ _ refl),
-            q .1 .1 ∙ ap (λ (y : List Float). splice (now (a .record-poses)) 0 (bytesOf y))
-                (front _ _ (recordPosesIn (sheet s) (block s)) _ (g .1 .1 .1 .2) (poses-in-length (sheet s) (block s) ∙ ap (λ (k : ℕ). 7 * k) (sym m))) ∙ sym (taken 0 _ _ refl),
-          ),
-        ),
-      ),
-    )
+    let e = c .before .before .before .before .before .before .before .before .before .before .before .before .before .before .before .before .before .before .before .before .before .before .before in
+    (sym (e .if1 .left) ∙ e .before .one-block-number .ensures, c .before .before .before .before .before .before .before .before .before .before .before .before .before .put-one-block .ensures)
+
+slice-aggregate-put-one-block-2 : tie.Need-slice-aggregate-put-one-block-2
+slice-aggregate-put-one-block-2 c = search needs
+
+put-one-block-requires-2 : tie.Need-put-one-block-requires-2
+put-one-block-requires-2 c κs =
+    let t = fitted (c .before .before .before .before .before .before .before .before .before) in
+    (t, omega (arith, t .entries))
+
+same-length-8 : tie.Need-same-length-8
+same-length-8 c = search needs
+
+same-length-9 : tie.Need-same-length-9
+same-length-9 c = search needs
+
+same-length-10 : tie.Need-same-length-10
+same-length-10 c = search needs
+
+same-length-11 : tie.Need-same-length-11
+same-length-11 c = search needs
+
+same-length-12 : tie.Need-same-length-12
+same-length-12 c = search needs
+
+same-length-13 : tie.Need-same-length-13
+same-length-13 c = search needs
+
+returns-3 : tie.Need-returns-3
+returns-3 c =
+    let e = c .before .before .before .before .before .before .before .before .before .before .before .before .before .before .before .before .before .before .before .before .before .before .before in
+    (sym (e .if1 .left) ∙ e .before .one-block-number .ensures, c .before .before .before .before .before .before .before .before .before .before .before .before .before .put-one-block2 .ensures)
 
 pub gradient-one-block-spec : {M : Type 1} → statement M
 gradient-one-block-spec =
@@ -147,22 +113,22 @@ gradient-one-block-spec =
     one-block-number-requires
     same-length
     returns
-    slice-aggregate-one-block-on
-    slice-aggregate-one-block-on-2
-    slice-aggregate-one-block-on-3
-    slice-aggregate-one-block-on-4
-    one-block-on-requires
-    slice-aggregate-put-slopes
-    put-slopes-requires
     entries-requires
-    slice-aggregate-put-record
-    slice-aggregate-put-record-2
-    slice-aggregate-put-record-3
-    put-record-requires
+    slice-aggregate-put-one-block
+    put-one-block-requires
     same-length-2
     same-length-3
     same-length-4
     same-length-5
     same-length-6
     same-length-7
-    returns-2)
+    returns-2
+    slice-aggregate-put-one-block-2
+    put-one-block-requires-2
+    same-length-8
+    same-length-9
+    same-length-10
+    same-length-11
+    same-length-12
+    same-length-13
+    returns-3)

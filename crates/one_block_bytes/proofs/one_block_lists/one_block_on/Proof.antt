@@ -1,7 +1,7 @@
 -- `one_block_on` meets its contract: the gradient and the record of what the history and the sheet give.
 use mathlib.Core.Path.{_≡_, refl, ap, _∙_}
 use mathlib.Core.List.{List}
-use Prim.Native.Nat.{ℕ, _≤_}
+use Prim.Native.Nat.{ℕ}
 use native.Mathlib.Omega.{arith}
 use denote.Ref.{now}
 use lib.Ieee.{Float}
@@ -32,11 +32,9 @@ known s = task-taken (sheet s) _ _ (block s) (s .pre .0)
 abbrev S : tie.After-links → tie.Start
 S c = c .before .before .before .before .before .before .before .before .before .before .before .before
 
--- the local lists have room for every record
-few : (c : tie.After-links) → entriesOf (now (c .links .result)) (now (S c .args .codes)) ≤ 320
-few c =
-    let e : entriesOf (now (c .links .result)) (now (S c .args .codes)) ≡ entriesIn (sheet (S c)) = ap (λ (ns : List ℕ). entriesOf ns (now (S c .args .codes))) (c .links .ensures) in
-    omega (arith, e, task-counted (sheet (S c)) _ _ _ (S c .pre .0) .entries)
+-- the record's entries are the sheet's
+counted : (c : tie.After-links) → entriesOf (now (c .links .result)) (now (S c .args .codes)) ≡ entriesIn (sheet (S c))
+counted c = ap (λ (ns : List ℕ). entriesOf ns (now (S c .args .codes))) (c .links .ensures)
 
 links-requires : tie.Need-links-requires
 links-requires c κs = search needs
@@ -56,9 +54,10 @@ gradient-requires : tie.Need-gradient-requires
 gradient-requires c κs =
     let s = c .before .before .before .before .before .before .before .before .before .before .before .before .before .before .before .before .before .before .before .before .before in
     let t = known s in
-    let n = few (c .before .before .before .before .before .before .before .before .before) in (
-      (ready-taken (sheet s) _ _ _ t _ _ (c .before .before .before .before .before .before .before .before .before .links .ensures) (c .before .before .before .before .before .before .before .lay-task .kept .1 .1 .1 .1 .0), omega (arith, s .pre .1, t .block, t .few)),
-      record { joints-room = omega (arith, n, s .pre .1); links-room = omega (arith, n, s .pre .1); frames-room = omega (arith, n, s .pre .1) },
+    let n = counted (c .before .before .before .before .before .before .before .before .before) in
+    let m = task-counted (sheet s) _ _ _ (s .pre .0) .entries in (
+      (ready-taken (sheet s) _ _ _ t _ _ (c .before .before .before .before .before .before .before .before .before .links .ensures) (c .before .before .before .before .before .before .before .lay-task .kept .1 .1 .1 .1 .0), omega (arith, s .pre .1 .0, t .block, t .few)),
+      record { joints-room = omega (arith, n, m, s .pre .1 .0); links-room = omega (arith, n, m, s .pre .1 .0); frames-room = omega (arith, n, s .pre .1 .1) },
     )
 
 same-length : tie.Need-same-length
