@@ -2,16 +2,21 @@
 //! ratios mean something: the nanoseconds are this machine's. Nothing is
 //! asserted here; `compare` looks at the answers.
 
-#![forbid(unsafe_code)]
+// A declaration of what is linked counts as unsafe; two builds need one.
+#![cfg_attr(not(feature = "two_builds"), forbid(unsafe_code))]
 
 mod arms;
+mod builds;
 mod digits;
 mod leaves;
 #[cfg(feature = "objective")]
 mod objective;
+mod ratios;
 mod report;
 mod timing;
 
+use builds::{Build, Round};
+use ratios::Ratios;
 use std::hint::black_box;
 use std::process::ExitCode;
 use timing::{pass, time, Timed};
@@ -20,7 +25,12 @@ const USAGE: &str = "\
 bench [WORD]          times the rows, or those with the word in their name
 bench --markdown      times all rows and prints the tables of docs/BENCHMARKS.md
 bench --once NAME N   runs one row's proved side N times, untimed
-bench --list          the names of the rows";
+bench --list          the names of the rows
+
+For tools/speed_ratio, which links two builds of the library:
+bench --round WORD    times the proved side of the rows on both, a line for each
+bench --ratios FILE   prints tables of such lines
+bench --both WORD N   runs the proved side N times on both, untimed";
 
 /// Inputs of one pass; small enough to stay near the processor.
 const INPUTS: usize = 1024;
@@ -60,19 +70,28 @@ enum Wish {
     Markdown,
     Once(String, usize),
     List,
+    /// Rows as for `Time`, on two builds.
+    Round(String),
+    Ratios(String),
+    Both(String, usize),
 }
 
 fn wish(arguments: &[&str]) -> Result<Wish, String> {
+    let count = |word: &str| {
+        let number = word.parse();
+        number.map_err(|_| format!("not a whole number: {word}"))
+    };
     match arguments {
         [] => Ok(Wish::Time(String::new())),
         ["--list"] => Ok(Wish::List),
         ["--markdown"] => Ok(Wish::Markdown),
-        ["--once", name, times] => {
-            let times = times
-                .parse()
-                .map_err(|_| format!("not a whole number: {times}"))?;
-            Ok(Wish::Once(name.to_string(), times))
+        ["--once", name, times] => Ok(Wish::Once(name.to_string(), count(times)?)),
+        ["--round" | "--both", ..] if !cfg!(feature = "two_builds") => {
+            Err("one build is linked: run tools/speed_ratio".to_string())
         }
+        ["--round", word] => Ok(Wish::Round(word.to_string())),
+        ["--ratios", file] => Ok(Wish::Ratios(file.to_string())),
+        ["--both", word, times] => Ok(Wish::Both(word.to_string(), count(times)?)),
         [word] if !word.starts_with('-') => Ok(Wish::Time(word.to_string())),
         _ => Err(format!("not understood: {}", arguments.join(" "))),
     }
@@ -86,6 +105,14 @@ struct Rows {
 }
 
 impl Rows {
+    fn new(wish: Wish) -> Self {
+        Self {
+            wish,
+            found: false,
+            timed: Vec::new(),
+        }
+    }
+
     /// Inputs are drawn for rows that are passed over too, so a row has the
     /// same ones whatever is asked for.
     fn row<I>(
@@ -107,14 +134,31 @@ impl Rows {
                 self.timed.push(time(name, inputs, &proved, &reference));
             }
             Wish::Once(chosen, times) if name == chosen => {
-                let calls = inputs.iter().cycle().take(*times);
-                let sum: f64 = calls.map(|input| proved(black_box(input))).sum();
+                let sum = repeated(inputs, *times, &proved);
                 println!("{name}: {times} calls, sum {sum:e}");
+            }
+            Wish::Round(word) if report::has_table(name) && name.contains(word.as_str()) => {
+                // The root's two rows differ in the reference alone.
+                let name = name.split(", against ").next().unwrap_or(name);
+                let round = Round::new(inputs, &proved, &builds::take);
+                println!("{}", ratios::line(name, &round));
+            }
+            Wish::Both(word, times) if name.contains(word.as_str()) => {
+                for build in [Build::Before, Build::After] {
+                    builds::take(build);
+                    let sum = repeated(inputs, *times, &proved);
+                    println!("{name}: {times} calls {build:?}, sum {sum:e}");
+                }
             }
             _ => return,
         }
         self.found = true;
     }
+}
+
+fn repeated<I>(inputs: &[I], times: usize, call: &impl Fn(&I) -> f64) -> f64 {
+    let calls = inputs.iter().cycle().take(times);
+    calls.map(|input| call(black_box(input))).sum()
 }
 
 fn print(row: &Timed, proved: f64, reference: f64) {
@@ -144,16 +188,11 @@ fn main() -> ExitCode {
             "name", "proved ns", "reference ns", "ratio", "quartiles"
         );
     }
-    let mut rows = Rows {
-        wish,
-        found: false,
-        timed: Vec::new(),
-    };
-    let mut draw = Draw(0x9e37_79b9_7f4a_7c15);
-    leaves::rows(&mut rows, &mut draw);
-    #[cfg(feature = "objective")]
-    objective::losses(&mut rows, &mut draw);
-    calls(&mut rows, &mut draw);
+    if let Wish::Ratios(file) = wish {
+        return ratios(&file);
+    }
+    let mut rows = Rows::new(wish);
+    all(&mut rows);
     match rows.wish {
         Wish::Markdown => print!("{}", report::markdown(&rows.timed)),
         Wish::Time(_) => print!("{}", report::growth(&rows.timed)),
@@ -165,6 +204,30 @@ fn main() -> ExitCode {
         eprintln!("no such row (--list shows them)");
         ExitCode::from(2)
     }
+}
+
+/// The tables of the rounds in a file; fails if a row does.
+fn ratios(file: &str) -> ExitCode {
+    let text = std::fs::read_to_string(file).map_err(|error| format!("{file}: {error}"));
+    match text.and_then(|text| Ratios::of(&text)) {
+        Ok(ratios) => {
+            print!("{}", ratios.markdown());
+            ExitCode::from(u8::from(!ratios.faults().is_empty()))
+        }
+        Err(message) => {
+            eprintln!("{message}");
+            ExitCode::from(2)
+        }
+    }
+}
+
+/// Every row, once.
+fn all(rows: &mut Rows) {
+    let mut draw = Draw(0x9e37_79b9_7f4a_7c15);
+    leaves::rows(rows, &mut draw);
+    #[cfg(feature = "objective")]
+    objective::losses(rows, &mut draw);
+    calls(rows, &mut draw);
 }
 
 /// Every call on arms of each size. Single chains of 2, 4, 8 and 16 joints
@@ -197,6 +260,10 @@ mod tests {
         assert!(wish(&["--once", "sin"]).is_err());
         assert!(wish(&["--once", "sin", "often"]).is_err());
         assert!(wish(&["--nothing"]).is_err());
+        assert_eq!(wish(&["--ratios", "x"]), Ok(Wish::Ratios("x".to_string())));
+        let two = cfg!(feature = "two_builds");
+        assert_eq!(wish(&["--round", ""]).is_ok(), two);
+        assert_eq!(wish(&["--both", "sin", "5"]).is_ok(), two);
         assert!(wish(&["sin", "cos"]).is_err());
     }
 
@@ -208,11 +275,7 @@ mod tests {
             asked.set(asked.get() + 1);
             *x
         };
-        let mut rows = Rows {
-            wish: Wish::Once("this".to_string(), 5),
-            found: false,
-            timed: Vec::new(),
-        };
+        let mut rows = Rows::new(Wish::Once("this".to_string(), 5));
         rows.row("this one not", &[1.0, 2.0], proved, |x| *x);
         assert!(!rows.found && asked.get() == 0);
         rows.row("this", &[1.0, 2.0], proved, |x| *x);

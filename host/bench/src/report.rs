@@ -15,11 +15,16 @@ const ARMS: [&str; 5] = [
 ];
 
 /// A row's function and its arm, if it is a call on one.
-fn parts(name: &str) -> (&str, Option<&str>) {
+pub fn parts(name: &str) -> (&str, Option<&str>) {
     match name.rsplit_once(", ") {
         Some((call, arm)) if arm.ends_with(" joints") => (call, Some(arm)),
         _ => (name, None),
     }
+}
+
+/// Whether the row is more than a point of the growth.
+pub fn has_table(name: &str) -> bool {
+    parts(name).1.is_none_or(|arm| ARMS.contains(&arm))
 }
 
 pub fn markdown(timed: &[Timed]) -> String {
@@ -148,6 +153,8 @@ mod tests {
         assert_eq!(parts("pose, 4 x 4 joints"), ("pose", Some("4 x 4 joints")));
         let leaf = "scaled_axis, one part a call";
         assert_eq!(parts(leaf), (leaf, None));
+        assert!(has_table(leaf) && has_table("pose, 4 x 4 joints"));
+        assert!(!has_table("pose, 4 joints"));
     }
 
     #[test]

@@ -34,7 +34,7 @@ pub fn pass<I>(inputs: &[I], f: &impl Fn(&I) -> f64) -> f64 {
 }
 
 /// Nanoseconds a call over some passes.
-fn nanoseconds<I>(inputs: &[I], passes: usize, f: &impl Fn(&I) -> f64) -> f64 {
+pub fn nanoseconds<I>(inputs: &[I], passes: usize, f: &impl Fn(&I) -> f64) -> f64 {
     let start = Instant::now();
     for _ in 0..passes {
         black_box(pass(inputs, f));
@@ -42,10 +42,14 @@ fn nanoseconds<I>(inputs: &[I], passes: usize, f: &impl Fn(&I) -> f64) -> f64 {
     start.elapsed().as_secs_f64() * 1e9 / (passes * inputs.len()) as f64
 }
 
-/// At a quarter and at three quarters of the sorted numbers.
-fn quartiles(mut numbers: Vec<f64>) -> [f64; 2] {
-    numbers.sort_by(f64::total_cmp);
-    [1, 3].map(|quarter| numbers[quarter * (numbers.len() - 1) / 4])
+/// At so many quarters of the sorted numbers, between two of them if need be;
+/// the second is the median.
+pub fn at_quarter(quarter: usize, numbers: &[f64]) -> f64 {
+    let mut sorted = numbers.to_vec();
+    sorted.sort_by(f64::total_cmp);
+    let quarters = quarter * (sorted.len() - 1);
+    let (low, high) = (sorted[quarters / 4], sorted[quarters.div_ceil(4)]);
+    low + (high - low) * (quarters % 4) as f64 / 4.0
 }
 
 /// Times both in turn, so that a change of the machine's pace meets both.
@@ -70,7 +74,7 @@ pub fn time<I>(
         name: name.to_string(),
         proved: ours,
         reference: theirs,
-        quartiles: quartiles(ratios),
+        quartiles: [1, 3].map(|quarter| at_quarter(quarter, &ratios)),
     }
 }
 
@@ -80,8 +84,11 @@ mod tests {
 
     #[test]
     fn quartiles_are_of_the_sorted_numbers() {
-        assert_eq!(quartiles(vec![5.0, 1.0, 3.0, 2.0, 4.0]), [2.0, 4.0]);
-        assert_eq!(quartiles(vec![7.0]), [7.0; 2]);
+        let numbers = [5.0, 1.0, 3.0, 2.0, 4.0];
+        let found = [1, 2, 3].map(|quarter| at_quarter(quarter, &numbers));
+        assert_eq!(found, [2.0, 3.0, 4.0]);
+        assert_eq!(at_quarter(3, &[7.0]), 7.0);
+        assert_eq!(at_quarter(2, &[4.0, 1.0]), 2.5);
     }
 
     #[test]
