@@ -18,14 +18,14 @@ use Rattle.refusals.specs.Lowest.{lowestFrom, lowest, firstOf, first-zero, firs
 use Rattle.refusals.specs.Refusal.{chainsOf, linksOf, badSizes, badLengths, badLimits, badFloats, badBlock, badHistory, badGoals, shapeRefusal, loadRefusal, blockRefusal, historyRefusal, goalsRefusal, roomRefusal}
 use Rattle.refusals.specs.Passed.{Sizes, Shape, sizes-passed, load-first, load-passed, shape-passed}
 use Rattle.calls.specs.Frames.{framesRefusal, poseRefusal}
-use Rattle.lent_bytes.specs.Lent.{Misfit, numbersIn, floatsIn, roomIn, no-nans, no-floats}
+use Rattle.lent_bytes.specs.Lent.{Misfit, numbersIn, floatsIn, roomIn, no-numbers, no-floats}
 use Rattle.lent_bytes.specs.SheetLists.{SheetLists, sheetWith}
 use Rattle.arm_bytes.specs.ArmCalls.{loadNumber, setGoalsNumber, framesNumber, poseNumber, updateNumber, resetNumber, manipulabilityNumber}
 
 -- ---- the sheet's lists
 pub ragged-sizes : (b codes : List ℕ) (floats limits : List Float) → Misfit 2 5 (length b) → loadNumber (sheetWith (numbersIn 5 b) codes floats limits) ≡ 1
 unfolding loadRefusal lowest lowestFrom badSizes
-ragged-sizes b codes floats limits m = rw (no-nans 5 b m)
+ragged-sizes b codes floats limits m = rw (no-numbers 5 b m)
 
 first-le : (ns : List ℕ) → getD ns 0 0 ≤ total ns
 unfolding total
@@ -49,7 +49,7 @@ no-codes ns n h = rw (ne-eqb 0 (total ns) (λ z. omega arith))
 
 pub ragged-codes : (sizes b : List ℕ) (floats limits : List Float) → badSizes sizes ≡ false → Misfit 2 64 (length b)
     → loadNumber (sheetWith sizes (numbersIn 64 b) floats limits) ≡ 2
-ragged-codes sizes b floats limits e m = rw (no-nans 64 b m) (two-first sizes [] floats limits e (no-codes (linksOf sizes) (length floats) (total-some sizes e)))
+ragged-codes sizes b floats limits e m = rw (no-numbers 64 b m) (two-first sizes [] floats limits e (no-codes (linksOf sizes) (length floats) (total-some sizes e)))
 
 no-link-floats : (ns codes : List ℕ) → 1 ≤ total ns → badLengths ns codes 0 ≡ true
 unfolding badLengths

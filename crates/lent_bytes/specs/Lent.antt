@@ -132,9 +132,9 @@ pub numbers-length : (cap : ℕ) (b : List ℕ) → length (numbersIn cap b) ≡
 unfolding numbersIn
 numbers-length cap b = length-listed (numberAt b) (countIn 2 cap (length b))
 
-pub no-nans : (cap : ℕ) (b : List ℕ) → Misfit 2 cap (length b) → numbersIn cap b ≡ []
+pub no-numbers : (cap : ℕ) (b : List ℕ) → Misfit 2 cap (length b) → numbersIn cap b ≡ []
 unfolding numbersIn listed runs
-no-nans cap b m = rw (none-counted 2 cap (length b) m)
+no-numbers cap b m = rw (none-counted 2 cap (length b) m)
 
 pub no-floats : (cap : ℕ) (b : List ℕ) → Misfit 8 cap (length b) → floatsIn cap b ≡ []
 unfolding floatsIn listed runs
