@@ -8,18 +8,23 @@ use Rattle.geometry.specs.declared.pose.Pose.{Pose}
 use Rattle.spacetime.specs.Walk.{poseOf}
 use Rattle.spacetime.specs.Frames.{positionsOf, rotationsOf, endsOf}
 use Rattle.manipulability.specs.Jacobian.{manipulabilityOf}
-use Rattle.refusals.specs.Lengths.{historyLength, valueLength}
+use Rattle.refusals.specs.Lengths.{historyLength, valueLength, planLength}
 use Rattle.refusals.specs.Lowest.{firstOf}
-use Rattle.refusals.specs.Refusal.{chainsOf, linksOf, loadRefusal, blockRefusal, historyRefusal, goalsRefusal, roomRefusal}
+use Rattle.refusals.specs.Refusal.{chainsOf, linksOf, loadRefusal, sizingRefusal, blockRefusal, historyRefusal, goalsRefusal, roomRefusal}
 use Rattle.calls.specs.Arms.{ifTaken}
 use Rattle.calls.specs.Frames.{framesRefusal, poseRefusal}
-use Rattle.lent_bytes.specs.Lent.{bytesOf}
+use Rattle.sizing.specs.Sizing.{sheetPlan, planList}
+use Rattle.lent_bytes.specs.Lent.{bytesOf, bytesOfNumbers}
 use Rattle.lists.specs.Lent.{lent, LentList}
 use Rattle.lent_bytes.specs.SheetLists.{SheetLists}
 
--- ---- the numbers: those of loading, 1 to 6, then the call's own; 0 is accepted. Rooms are in floats.
+-- ---- the numbers: those of loading, 1 to 6, then the call's own; 0 is accepted. Rooms are in floats, that of sizing in u16s.
 abbrev pub loadNumber : SheetLists → ℕ
 loadNumber s = loadRefusal (s .sizes) (s .codes) (s .floats) (s .limits)
+
+-- sizing, which is lent no limits: those of loading but 5, then 9 for an output without room for a plan
+unfoldable pub sizingNumber : List ℕ → List ℕ → List Float → ℕ → ℕ
+sizingNumber sizes codes floats room = firstOf (sizingRefusal sizes codes floats) (roomRefusal planLength room)
 
 -- setting goals: then 8
 unfoldable pub setGoalsNumber : SheetLists → List Float → ℕ
@@ -48,7 +53,11 @@ resetNumber s x history ends =
 unfoldable pub manipulabilityNumber : SheetLists → List Float → ℕ → ℕ
 manipulabilityNumber s x room = firstOf (loadNumber s) (firstOf (blockRefusal (s .codes) x) (roomRefusal valueLength room))
 
--- ---- what they write, in floats
+-- ---- what they write, in floats, and sizing in u16s
+-- the plan of a sheet
+unfoldable pub planNumbers : List ℕ → List ℕ → List ℕ
+planNumbers sizes codes = planList (sheetPlan sizes codes)
+
 -- the pose after each link in the walk of block x
 abbrev pub posesOn : SheetLists → List Float → ℕ → Pose
 posesOn s x = poseOf (linksOf (s .sizes)) (s .codes) (s .floats) x
@@ -78,3 +87,7 @@ manipulabilityValue s x = manipulabilityOf (posesOn s x) (linksOf (s .sizes)) (s
 -- an output after a call of number r: the bytes at its front, its tail kept; as it was where the call is refused
 abbrev pub outputOf : {X : Type 0} → ℕ → LentList ℕ X → List Float → List ℕ
 outputOf r out answer = ifTaken r (lent out) (splice (lent out) 0 (bytesOf answer))
+
+-- the same of an output of u16s
+abbrev pub numbersOutputOf : {X : Type 0} → ℕ → LentList ℕ X → List ℕ → List ℕ
+numbersOutputOf r out answer = ifTaken r (lent out) (splice (lent out) 0 (bytesOfNumbers answer))

@@ -3,3 +3,4 @@ pub mod ArmLaws
 pub mod Blocks
 pub mod Numbers
 pub mod Ragged
+pub mod Planned

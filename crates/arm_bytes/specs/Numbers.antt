@@ -4,14 +4,14 @@ use mathlib.Core.List.{List, [], _∷_, _++_}
 use Prim.Native.Nat.{ℕ, zero, suc}
 use native.Mathlib.Omega.{arith}
 use lib.Ieee.{Float}
-use Rattle.refusals.specs.Lengths.{endsLength, historyLength, valueLength}
+use Rattle.refusals.specs.Lengths.{endsLength, historyLength, valueLength, planLength}
 use Rattle.refusals.specs.Lowest.{firstOf, first-zero, first-some}
-use Rattle.refusals.specs.Refusal.{chainsOf, linksOf, blockRefusal, historyRefusal, roomRefusal}
-use Rattle.refusals.specs.Rows.{Row, firstRow, upFrom, IsLowest, lowest-row, loadRows, blockRow, historyRow, goalsRow, roomRow, block-row, history-row, goals-row, room-row, load-row, load-lowest, alone}
+use Rattle.refusals.specs.Refusal.{chainsOf, linksOf, sizingRefusal, blockRefusal, historyRefusal, roomRefusal}
+use Rattle.refusals.specs.Rows.{Row, firstRow, upFrom, IsLowest, lowest-row, loadRows, sizingRows, blockRow, historyRow, goalsRow, roomRow, block-row, history-row, goals-row, room-row, load-row, load-lowest, sizing-row, alone}
 use Rattle.calls.specs.Frames.{poseRefusal}
 use Rattle.calls.specs.Rows.{framesRows, poseRows, room-alone, frames-rows, pose-rows}
 use Rattle.lent_bytes.specs.SheetLists.{SheetLists}
-use Rattle.arm_bytes.specs.ArmCalls.{loadNumber, setGoalsNumber, framesNumber, poseNumber, updateNumber, resetNumber, manipulabilityNumber}
+use Rattle.arm_bytes.specs.ArmCalls.{loadNumber, sizingNumber, setGoalsNumber, framesNumber, poseNumber, updateNumber, resetNumber, manipulabilityNumber}
 
 pub first-assoc : (a b c : ℕ) → firstOf (firstOf a b) c ≡ firstOf a (firstOf b c)
 first-assoc zero b c = ap (λ (n : ℕ). firstOf n c) (first-zero 0 b refl) ∙ sym (first-zero 0 (firstOf b c) refl)
@@ -26,6 +26,12 @@ block-then cs x k rs e = ap (firstOf (blockRefusal cs x)) e ∙ block-row cs x r
 -- and a history's
 pub history-then : (cs : List ℕ) (h : List Float) (k : ℕ) (rs : List Row) → k ≡ firstRow rs → firstOf (historyRefusal cs h) k ≡ firstRow (historyRow cs h ∷ rs)
 history-then cs h k rs e = ap (firstOf (historyRefusal cs h)) e ∙ history-row cs h rs
+
+pub sizing-number-lowest : (sizes codes : List ℕ) (floats : List Float) (room : ℕ)
+    → IsLowest (sizingRows sizes codes floats ++ (roomRow planLength room ∷ [])) (sizingNumber sizes codes floats room)
+unfolding sizingNumber upFrom
+sizing-number-lowest sizes codes floats room =
+    lowest-row _ _ refl (ap (firstOf (sizingRefusal sizes codes floats)) (room-alone planLength room) ∙ sizing-row sizes codes floats (roomRow planLength room ∷ []))
 
 module _ (s : SheetLists) where
   -- the sheet's conditions, 1 to 6

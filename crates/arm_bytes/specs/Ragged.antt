@@ -6,26 +6,41 @@ use mathlib.Core.Logic.{_⊎_, ⊎-elim}
 use mathlib.Core.List.{List, [], _∷_}
 use Prim.Native.Nat.{ℕ, suc, _*_, _/_, _%_, _≤_, _<_}
 use native.Mathlib.Omega.{arith}
-use lib.Dec.{eqb, ltb}
+use lib.Dec.{eqb}
 use lib.Ieee.{Float}
 use lib.ListN.{length, getD}
 use borrow.Author.Tests.{ne-eqb, lt-ltb}
 use Rattle.lists.specs.Runs.{runs}
 use Rattle.lists.specs.Listed.{listed}
 use Rattle.sheet.specs.Chain.{total, chainStart, jointOf, joints, joint-mono, joint-last, chain-start-mono, chain-start-total, chainLength}
-use Rattle.refusals.specs.Lengths.{endsLength, historyLength, positions-sum, rotations-sum}
-use Rattle.refusals.specs.Lowest.{lowestFrom, lowest, firstOf, first-zero, first-some}
-use Rattle.refusals.specs.Refusal.{chainsOf, linksOf, badSizes, badLengths, badLimits, badFloats, badBlock, badHistory, badGoals, shapeRefusal, loadRefusal, blockRefusal, historyRefusal, goalsRefusal, roomRefusal}
-use Rattle.refusals.specs.Passed.{Sizes, Shape, sizes-passed, load-first, load-passed, shape-passed}
+use Rattle.refusals.specs.Lengths.{endsLength, historyLength, planLength, positions-sum, rotations-sum}
+use Rattle.refusals.specs.Lowest.{lowestFrom, lowest, firstOf, first-zero, first-is}
+use Rattle.refusals.specs.Refusal.{chainsOf, linksOf, badSizes, badLengths, badLimits, badFloats, badBlock, badHistory, badGoals, shapeRefusal, sizingRefusal, blockRefusal, historyRefusal, goalsRefusal, roomRefusal}
+use Rattle.refusals.specs.Passed.{Sizes, Shape, sizes-passed, load-first, sizing-first, load-passed, shape-passed, room-behind}
 use Rattle.calls.specs.Frames.{framesRefusal, poseRefusal}
-use Rattle.lent_bytes.specs.Lent.{Misfit, numbersIn, floatsIn, roomIn, no-numbers, no-floats}
-use Rattle.lent_bytes.specs.SheetLists.{SheetLists, sheetWith}
-use Rattle.arm_bytes.specs.ArmCalls.{loadNumber, setGoalsNumber, framesNumber, poseNumber, updateNumber, resetNumber, manipulabilityNumber}
+use Rattle.lent_bytes.specs.Lent.{Misfit, floatsIn, roomIn, numberRoomIn, no-numbers, no-floats}
+use Rattle.lent_bytes.specs.SheetLists.{SheetLists, sheetWith, sizesFrom, codesFrom, linkFloatsFrom}
+use Rattle.arm_bytes.specs.ArmCalls.{loadNumber, sizingNumber, setGoalsNumber, framesNumber, poseNumber, updateNumber, resetNumber, manipulabilityNumber}
 
--- ---- the sheet's lists
-pub ragged-sizes : (b codes : List ℕ) (floats limits : List Float) → Misfit 2 5 (length b) → loadNumber (sheetWith (numbersIn 5 b) codes floats limits) ≡ 1
-unfolding loadRefusal lowest lowestFrom badSizes
-ragged-sizes b codes floats limits m = rw (no-numbers 5 b m)
+-- ---- the sheet's lists: 1 and 2, whichever call is lent them
+module _ (sizes codes : List ℕ) (floats : List Float) (k : ℕ) (e : shapeRefusal sizes codes (length floats) ≡ suc k) where
+  load-shape : (limits : List Float) → loadNumber (sheetWith sizes codes floats limits) ≡ suc k
+  load-shape limits = load-first sizes codes floats limits ∙ first-is _ _ k e
+
+  sizing-shape : (room : ℕ) → sizingNumber sizes codes floats room ≡ suc k
+  unfolding sizingNumber
+  sizing-shape room = first-is _ _ k (sizing-first sizes codes floats ∙ first-is _ _ k e)
+
+module _ (b codes : List ℕ) (floats : List Float) (m : Misfit 2 5 (length b)) where
+  one : shapeRefusal (sizesFrom b) codes (length floats) ≡ 1
+  unfolding shapeRefusal lowest lowestFrom badSizes
+  one = rw (no-numbers 5 b m)
+
+  pub ragged-sizes : (limits : List Float) → loadNumber (sheetWith (sizesFrom b) codes floats limits) ≡ 1
+  ragged-sizes = load-shape (sizesFrom b) codes floats 0 one
+
+  pub sizing-ragged-sizes : (room : ℕ) → sizingNumber (sizesFrom b) codes floats room ≡ 1
+  sizing-ragged-sizes = sizing-shape (sizesFrom b) codes floats 0 one
 
 first-le : (ns : List ℕ) → getD ns 0 0 ≤ total ns
 unfolding total
@@ -38,26 +53,37 @@ total-some sizes e =
     let s : Sizes sizes = sizes-passed sizes e in
     omega (arith, s .some, s .links 0 (s .some) .0, first-le (linksOf sizes))
 
-two-first : (sizes codes : List ℕ) (floats limits : List Float) → badSizes sizes ≡ false → badLengths (linksOf sizes) codes (length floats) ≡ true
-    → loadNumber (sheetWith sizes codes floats limits) ≡ 2
-unfolding loadRefusal lowest lowestFrom
-two-first sizes codes floats limits e q = rw (e, q)
+two-first : (sizes codes : List ℕ) (n : ℕ) → badSizes sizes ≡ false → badLengths (linksOf sizes) codes n ≡ true → shapeRefusal sizes codes n ≡ 2
+unfolding shapeRefusal lowest lowestFrom
+two-first sizes codes n e q = rw (e, q)
 
 no-codes : (ns : List ℕ) (n : ℕ) → 1 ≤ total ns → badLengths ns [] n ≡ true
 unfolding badLengths
 no-codes ns n h = rw (ne-eqb 0 (total ns) (λ z. omega arith))
 
-pub ragged-codes : (sizes b : List ℕ) (floats limits : List Float) → badSizes sizes ≡ false → Misfit 2 64 (length b)
-    → loadNumber (sheetWith sizes (numbersIn 64 b) floats limits) ≡ 2
-ragged-codes sizes b floats limits e m = rw (no-numbers 64 b m) (two-first sizes [] floats limits e (no-codes (linksOf sizes) (length floats) (total-some sizes e)))
+module _ (sizes b : List ℕ) (floats : List Float) (e : badSizes sizes ≡ false) (m : Misfit 2 64 (length b)) where
+  two : shapeRefusal sizes (codesFrom b) (length floats) ≡ 2
+  two = rw (no-numbers 64 b m) (two-first sizes [] (length floats) e (no-codes (linksOf sizes) (length floats) (total-some sizes e)))
+
+  pub ragged-codes : (limits : List Float) → loadNumber (sheetWith sizes (codesFrom b) floats limits) ≡ 2
+  ragged-codes = load-shape sizes (codesFrom b) floats 1 two
+
+  pub sizing-ragged-codes : (room : ℕ) → sizingNumber sizes (codesFrom b) floats room ≡ 2
+  sizing-ragged-codes = sizing-shape sizes (codesFrom b) floats 1 two
 
 no-link-floats : (ns codes : List ℕ) → 1 ≤ total ns → badLengths ns codes 0 ≡ true
 unfolding badLengths
 no-link-floats ns codes h = rw (ne-eqb 0 (7 * total ns) (λ z. omega arith)) (or-true (not (eqb (length codes) (total ns))))
 
-pub ragged-floats : (sizes codes b : List ℕ) (limits : List Float) → badSizes sizes ≡ false → Misfit 8 448 (length b)
-    → loadNumber (sheetWith sizes codes (floatsIn 448 b) limits) ≡ 2
-ragged-floats sizes codes b limits e m = rw (no-floats 448 b m) (two-first sizes codes [] limits e (no-link-floats (linksOf sizes) codes (total-some sizes e)))
+module _ (sizes codes b : List ℕ) (e : badSizes sizes ≡ false) (m : Misfit 8 448 (length b)) where
+  none : shapeRefusal sizes codes (length (linkFloatsFrom b)) ≡ 2
+  none = rw (no-floats 448 b m) (two-first sizes codes 0 e (no-link-floats (linksOf sizes) codes (total-some sizes e)))
+
+  pub ragged-floats : (limits : List Float) → loadNumber (sheetWith sizes codes (linkFloatsFrom b) limits) ≡ 2
+  ragged-floats = load-shape sizes codes (linkFloatsFrom b) 1 none
+
+  pub sizing-ragged-floats : (room : ℕ) → sizingNumber sizes codes (linkFloatsFrom b) room ≡ 2
+  sizing-ragged-floats = sizing-shape sizes codes (linkFloatsFrom b) 1 none
 
 joints-below : (ns codes : List ℕ) → 2 ≤ chainLength ns codes 0 → 2 ≤ jointOf codes (chainStart ns 1)
 unfolding chainLength
@@ -84,7 +110,7 @@ ragged-limits sizes codes floats b e m =
     (load-first sizes codes floats []
     ∙ first-zero _ _ e
     ∙ ap (λ (t : Bool). firstOf (cond t 5 0) (cond (badFloats (length codes) floats) 6 0)) (no-limits (joints codes) some)
-    ∙ first-some 5 _ (λ z. omega arith))
+    ∙ first-is 5 _ 4 refl)
 
 -- ---- the lists beside it, on a sheet that is taken
 pub no-block : (cs : List ℕ) → 1 ≤ joints cs → blockRefusal cs [] ≡ 7
@@ -101,21 +127,22 @@ no-goals chains h = rw (ne-eqb 0 (13 * chains) (λ z. omega arith))
 
 -- the first number that is not 0
 pub after : (a b n k : ℕ) → a ≡ 0 → b ≡ suc k → firstOf a (firstOf b n) ≡ suc k
-after a b n k e q = first-zero a (firstOf b n) e ∙ first-some b n (λ z. omega (arith, q, z)) ∙ q
+after a b n k e q = first-zero a (firstOf b n) e ∙ first-is b n k q
 
 -- an output that is ragged has no room
 pub ragged-output : (needed n : ℕ) → 1 ≤ needed → (n % 8 ≡ 0 → ⊥) → roomRefusal needed (roomIn n) ≡ 9
 unfolding roomRefusal roomIn
 ragged-output needed n h m = rw (ne-eqb (n % 8) 0 m, lt-ltb 0 needed h)
 
--- also behind one that is not
-pub second-output : (needed have k : ℕ) → k ≡ 9 → firstOf (roomRefusal needed have) k ≡ 9
-unfolding roomRefusal
-second-output needed have k q = pick (ltb have needed)
-  where
-    pick : (t : Bool) → firstOf (cond t 9 0) k ≡ 9
-    pick true = first-some 9 k (λ z. omega arith)
-    pick false = first-zero 0 k refl ∙ q
+-- nor one of u16s
+pub ragged-numbers : (needed n : ℕ) → 1 ≤ needed → (n % 2 ≡ 0 → ⊥) → roomRefusal needed (numberRoomIn n) ≡ 9
+unfolding roomRefusal numberRoomIn
+ragged-numbers needed n h m = rw (ne-eqb (n % 2) 0 m, lt-ltb 0 needed h)
+
+pub sizing-ragged-plan : (sizes codes : List ℕ) (floats : List Float) (n : ℕ) → sizingRefusal sizes codes floats ≡ 0 → (n % 2 ≡ 0 → ⊥)
+    → sizingNumber sizes codes floats (numberRoomIn n) ≡ 9
+unfolding sizingNumber
+sizing-ragged-plan sizes codes floats n e m = first-zero _ _ e ∙ ragged-numbers planLength n (omega arith) m
 
 module _ (s : SheetLists) (e : loadNumber s ≡ 0) where
   pub shape : Shape (s .sizes) (s .codes) (length (s .floats))
@@ -150,11 +177,11 @@ module _ (s : SheetLists) (e : loadNumber s ≡ 0) where
 
     pub reset-ragged-joints : (h n : ℕ) → resetNumber s (floatsIn 16 b) h n ≡ 7
     unfolding resetNumber poseRefusal
-    reset-ragged-joints h n = after _ _ _ 6 e (first-some _ _ (λ z. omega (arith, seven, z)) ∙ seven)
+    reset-ragged-joints h n = after _ _ _ 6 e (first-is _ _ 6 seven)
 
     pub update-ragged-joints : (history : List Float) (n : ℕ) → updateNumber s history (floatsIn 16 b) n ≡ 7
     unfolding updateNumber
-    update-ragged-joints history n = after _ _ _ 6 e (first-some _ _ (λ z. omega (arith, seven, z)) ∙ seven)
+    update-ragged-joints history n = after _ _ _ 6 e (first-is _ _ 6 seven)
 
   pub update-ragged-history : (x : List Float) (b : List ℕ) (n : ℕ) → blockRefusal (s .codes) x ≡ 0 → Misfit 8 64 (length b)
       → updateNumber s (floatsIn 64 b) x n ≡ 7
@@ -168,7 +195,7 @@ module _ (s : SheetLists) (e : loadNumber s ≡ 0) where
 
     pub frames-ragged-rotations : (p : ℕ) → framesNumber s x p (roomIn n) ≡ 9
     unfolding framesNumber framesRefusal
-    frames-ragged-rotations p = first-zero _ _ e ∙ first-zero _ _ q ∙ second-output _ p _ (ragged-output _ n (omega (arith, chained, rotations-sum (linksOf (s .sizes)))) m)
+    frames-ragged-rotations p = first-zero _ _ e ∙ first-zero _ _ q ∙ room-behind _ p _ (ragged-output _ n (omega (arith, chained, rotations-sum (linksOf (s .sizes)))) m)
 
     pub pose-ragged-ends : poseNumber s x (roomIn n) ≡ 9
     unfolding poseNumber poseRefusal endsLength
@@ -182,7 +209,7 @@ module _ (s : SheetLists) (e : loadNumber s ≡ 0) where
     unfolding resetNumber poseRefusal
     reset-ragged-history k =
         first-zero _ _ e ∙ ap (λ (i : ℕ). firstOf i (roomRefusal (historyLength (s .codes)) (roomIn n))) (first-zero _ _ q)
-        ∙ second-output _ k _ (ragged-output _ n (omega (arith, moving)) m)
+        ∙ room-behind _ k _ (ragged-output _ n (omega (arith, moving)) m)
 
     pub update-ragged-output : (history : List Float) → historyRefusal (s .codes) history ≡ 0 → updateNumber s history x (roomIn n) ≡ 9
     unfolding updateNumber

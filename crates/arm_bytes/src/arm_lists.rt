@@ -7,15 +7,50 @@ use refusals::lengths;
 use refusals::lent;
 use refusals::load;
 use refusals::shape;
+use sizing::plan::Plan;
+use sizing::plan::Sizing;
 ghost use mathlib.Core.Path.{_≡_};
 ghost use Prim.Native.Nat.{_*_, _≤_};
 ghost use lib.ListN.{length};
 ghost use Rattle.lists.specs.Splice.{splice};
 ghost use Rattle.lent_bytes.specs.Lent.{bytesOf};
+ghost use Rattle.refusals.specs.Lengths.{planLength};
+ghost use Rattle.refusals.specs.Refusal.{roomRefusal};
 ghost use Rattle.lists.specs.Lent.{lent};
-ghost use Rattle.lent_bytes.specs.SheetLists.{sheetOf, roomOf};
-ghost use Rattle.arm_bytes.specs.ArmCalls.{setGoalsNumber, framesNumber, poseNumber, updateNumber, resetNumber, manipulabilityNumber};
-ghost use Rattle.arm_bytes.specs.ArmCalls.{framePositions, frameRotations, endPoses, updatedBlocks, resetBlocks, manipulabilityValue, outputOf};
+ghost use Rattle.lent_bytes.specs.SheetLists.{sheetOf, roomOf, numberRoomOf};
+ghost use Rattle.sizing.specs.Sizing.{planList, Small};
+ghost use Rattle.arm_bytes.specs.ArmCalls.{sizingNumber, setGoalsNumber, framesNumber, poseNumber, updateNumber, resetNumber, manipulabilityNumber};
+ghost use Rattle.arm_bytes.specs.ArmCalls.{planNumbers, framePositions, frameRotations, endPoses, updatedBlocks, resetBlocks, manipulabilityValue, outputOf, numbersOutputOf};
+
+// The bytes of a plan, its four numbers as u16s, where there is room.
+fn put_plan(p: Plan, out: &mut [u8]) -> u16
+    requires { ⌜ Small p ⌝ }
+    ensures number { λ r. ⌜ r ≡ roomRefusal planLength (numberRoomOf out) ⌝ }
+    ensures out { λ r. ⌜ now (out .exit) ≡ numbersOutputOf r out (planList p) ⌝ }
+{
+    let nine = lent::room_refusal(4, bytes_lent::number_room(out.len()));
+    if nine != 0 {
+        return nine;
+    }
+    let numbers = [
+        p.positions as u16,
+        p.rotations as u16,
+        p.objectives as u16,
+        p.entries as u16,
+    ];
+    bytes_lent::put_numbers(&numbers, 0, out);
+    0
+}
+
+pub fn sizing(sizes: &[u16], codes: &[u16], floats: &[f64], plan: &mut [u8]) -> u16
+    ensures number { λ r. ⌜ r ≡ sizingNumber (lent sizes) (lent codes) (lent floats) (numberRoomOf plan) ⌝ }
+    ensures plan { λ r. ⌜ now (plan .exit) ≡ numbersOutputOf r plan (planNumbers (lent sizes) (lent codes)) ⌝ }
+{
+    match sizing::sizing::sizing(sizes, codes, floats) {
+        Sizing::Planned(p) => put_plan(p, plan),
+        Sizing::Refused(number) => number,
+    }
+}
 
 pub fn set_goals(sizes: &[u16], codes: &[u16], floats: &[f64], limits: &[f64], goals: &[f64]) -> u16
     ensures { λ r. ⌜ r ≡ setGoalsNumber (sheetOf sizes codes floats limits) (lent goals) ⌝ }

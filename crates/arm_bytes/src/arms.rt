@@ -3,10 +3,10 @@ use crate::arm_lists;
 use lent_bytes::lent;
 use lent_bytes::sheet_lists;
 ghost use mathlib.Core.Path.{_≡_};
-ghost use Rattle.lent_bytes.specs.SheetLists.{sheetIn, blockIn, goalsIn, historyIn, roomOf};
-ghost use Rattle.arm_bytes.specs.ArmCalls.{loadNumber, setGoalsNumber, framesNumber, poseNumber, updateNumber, resetNumber};
+ghost use Rattle.lent_bytes.specs.SheetLists.{sizesIn, codesIn, linkFloatsIn, sheetIn, blockIn, goalsIn, historyIn, roomOf, numberRoomOf};
+ghost use Rattle.arm_bytes.specs.ArmCalls.{loadNumber, sizingNumber, planNumbers, setGoalsNumber, framesNumber, poseNumber, updateNumber, resetNumber};
 ghost use Rattle.arm_bytes.specs.ArmCalls.{manipulabilityNumber, framePositions, frameRotations, endPoses, updatedBlocks, resetBlocks};
-ghost use Rattle.arm_bytes.specs.ArmCalls.{manipulabilityValue, outputOf};
+ghost use Rattle.arm_bytes.specs.ArmCalls.{manipulabilityValue, outputOf, numbersOutputOf};
 
 pub fn load(sizes: &[u8], codes: &[u8], floats: &[u8], limits: &[u8]) -> u32
     ensures { λ r. ⌜ r ≡ loadNumber (sheetIn sizes codes floats limits) ⌝ }
@@ -21,6 +21,31 @@ pub fn load(sizes: &[u8], codes: &[u8], floats: &[u8], limits: &[u8]) -> u32
     let nf = n.floats;
     let nl = n.limits;
     refusals::load::load_refusal(&s[..ns], &c[..nc], &f[..nf], &l[..nl]) as u32
+}
+
+// No limits are lent, so none are decoded.
+pub fn sizing(sizes: &[u8], codes: &[u8], floats: &[u8], plan: &mut [u8]) -> u32
+    ensures number { λ r. ⌜ r ≡ sizingNumber (sizesIn sizes) (codesIn codes) (linkFloatsIn floats) (numberRoomOf plan) ⌝ }
+    ensures plan { λ r. ⌜ now (plan .exit) ≡ numbersOutputOf r plan (planNumbers (sizesIn sizes) (codesIn codes)) ⌝ }
+{
+    let mut s = [0u16; 5];
+    let mut c = [0u16; 64];
+    let mut f = [0.0; 448];
+    let mut l = [0.0; 32];
+    let n = sheet_lists::decode(
+        sizes,
+        codes,
+        floats,
+        &floats[0..0],
+        &mut s,
+        &mut c,
+        &mut f,
+        &mut l,
+    );
+    let ns = n.sizes;
+    let nc = n.codes;
+    let nf = n.floats;
+    arm_lists::sizing(&s[..ns], &c[..nc], &f[..nf], plan) as u32
 }
 
 pub fn set_goals(sizes: &[u8], codes: &[u8], floats: &[u8], limits: &[u8], goals: &[u8]) -> u32

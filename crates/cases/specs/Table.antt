@@ -1,12 +1,13 @@
--- The cases that document 01 marks P, and four of its refusals, each computed from the definitions.
+-- The cases that document 01 marks P, and some of its refusals, each computed from the definitions; what sizing answers among them.
 use mathlib.Core.Path.{_≡_, refl}
 use mathlib.Core.Bool.{false}
 use mathlib.Core.List.{List, [], _∷_, _++_}
-use Prim.Native.Nat.{ℕ}
+use Prim.Native.Nat.{ℕ, zero, suc}
 use lib.IntN.{negsuc}
 use lib.Ieee.{Float, fin, binary64, add, sub, mul, div, neg, eq, ne, lt, le, ofInt, ofBits}
-use lib.ListN.{length}
+use lib.ListN.{length, replicate}
 use Rattle.lists.specs.Runs.{runs}
+use Rattle.lists.specs.Listed.{listed}
 use Rattle.root.specs.Root.{rootOf}
 use Rattle.standins.specs.Num.{nought, half, one, two, whole}
 use Rattle.standins.specs.Cut.{cutOf}
@@ -27,12 +28,16 @@ use Rattle.spacetime.specs.Walk.{valueOf, afterLink, startOf, beforeOf, poseOf}
 use Rattle.spacetime.specs.Frames.{positionAt, rotationAt, positionsFrom, rotationsFrom, chainPositions, chainRotations, positionsOf, rotationsOf}
 use Rattle.groove.specs.Vars.{resetOf, updateOf}
 use Rattle.groove.specs.Loss.{tenth, grooveLoss, scaledOf, powerOf, bOf, boundsPenalty, swampLoss, freeOf}
-use Rattle.self_collision.specs.Pairs.{pairsFrom, pairsOf, chainPairs, allPairs}
+use Rattle.self_collision.specs.Pairs.{pairsFrom, pairsOf, chainPairs, allPairs, chainLengths}
 use Rattle.objective_master.specs.Objective.{goalObjectives, limitObjective, motionObjectives, pairObjective, sourceList, objectives}
+use Rattle.sizing.specs.declared.plan.Plan.{Plan}
+use Rattle.sizing.specs.declared.plan.Sizing.the-variants.{Planned, Refused}
+use Rattle.sizing.specs.Sizing.{planOf, plannedIf, sizingOf}
 use Rattle.one_block.specs.Record.{copyOf, recordOf, againOf, jointEntry, linkEntry, poseEntry, recordJoints, recordLinks, recordPoses, againAt, againBelow, entriesOf}
 use Rattle.refusals.specs.Range.{every, between, within, withinAt, squaresOf, nearOne, unitAt}
 use Rattle.refusals.specs.Lowest.{lowestFrom, lowest}
-use Rattle.refusals.specs.Refusal.{linksFit, badSizes, badLengths, listedKind, listedCode, listedAt, badCodes, twoJoints, laterFits, badJoints, rangedPair, pairFits, limitsFit, badLimits, linkFits, badFloats, loadRefusal, jointFits, valueFits, linkValueFits, eight, blockFits, badBlock, blockRefusal}
+use Rattle.refusals.specs.Lengths.{positionsLength, rotationsLength}
+use Rattle.refusals.specs.Refusal.{linksFit, badSizes, badLengths, listedKind, listedCode, listedAt, badCodes, twoJoints, laterFits, badJoints, rangedPair, pairFits, limitsFit, badLimits, linkFits, badFloats, loadRefusal, sizingRefusal, jointFits, valueFits, linkValueFits, eight, blockFits, badBlock, blockRefusal}
 
 -- the point z above the origin, and the rotation that does not turn, as floats
 abbrev high : Float → List Float
@@ -48,6 +53,15 @@ link d o = flatVec d ++ flatQuat o
 -- up 1, no offset
 abbrev up : List Float
 up = high one ++ still
+
+-- n links, each up 1, no offset
+abbrev ups : ℕ → List Float
+ups zero = []
+ups (suc n) = up ++ ups n
+
+-- n revolute links
+abbrev turning : ℕ → List ℕ
+turning n = replicate n 13
 
 -- a joint without limits
 abbrev free : List Float
@@ -92,8 +106,12 @@ pub record Cases : Type 0 where
   -- 7 joints: 32 objectives; chains of 6 and 3: 36
   pub seven-joints : length (objectives sourceList (7 ∷ [])) ≡ 32
   pub six-and-three : length (objectives sourceList (6 ∷ 3 ∷ [])) ≡ 36
+  -- the same through sizing, on whole sheets
+  pub seven-joints-sized : sizingOf (1 ∷ 7 ∷ []) (turning 7) (ups 7) ≡ Planned (record { positions = 24; rotations = 36; objectives = 32; entries = 35 })
+  pub six-and-three-sized : sizingOf (2 ∷ 6 ∷ 3 ∷ []) (turning 9) (ups 9) ≡ Planned (record { positions = 33; rotations = 52; objectives = 36; entries = 36 })
   -- fixed, revolute, revolute, fixed: 9 walked, links 0 1 2 3 1 2 3 2 3, joints 65535 four times, 0 0 0 1 1
   pub record-count : entriesOf four between-fixed ≡ 9
+  pub record-sized : sizingOf (1 ∷ 4 ∷ []) between-fixed (ups 4) ≡ Planned (record { positions = 15; rotations = 24; objectives = 12; entries = 9 })
   pub record-links : recordLinks four between-fixed ≡ 0 ∷ 1 ∷ 2 ∷ 3 ∷ 1 ∷ 2 ∷ 3 ∷ 2 ∷ 3 ∷ []
   pub record-joints : recordJoints four between-fixed ≡ 65535 ∷ 65535 ∷ 65535 ∷ 65535 ∷ 0 ∷ 0 ∷ 0 ∷ 1 ∷ 1 ∷ []
   -- each entry with the pose after its link in its copy's walk
@@ -109,6 +127,7 @@ pub record Cases : Type 0 where
   pub joint-refused : blockRefusal (13 ∷ 13 ∷ []) (eight ∷ ofBits binary64 0x4020_0000_0000_0001 ∷ []) ≡ 7
   -- a chain of one joint is refused, one of two is taken
   pub one-joint : loadRefusal (1 ∷ 1 ∷ []) (13 ∷ []) up free ≡ 4
+  pub one-joint-sized : sizingOf (1 ∷ 1 ∷ []) (13 ∷ []) up ≡ Refused 4
   pub two-joints : loadRefusal (1 ∷ 2 ∷ []) (13 ∷ 13 ∷ []) (up ++ up) (free ++ free) ≡ 0
 
 -- the poses are left as they are, and only the record around them is computed
@@ -120,7 +139,7 @@ poses-walked gs x = refl
 
 -- All of them, by computing both sides.
 pub cases : Cases
-unfolding recordJoints recordLinks recordOf againOf jointEntry linkEntry againAt againBelow entriesOf endIn objectives goalObjectives limitObjective motionObjectives pairObjective allPairs chainPairs pairsOf pairsFrom grooveLoss swampLoss scaledOf boundsPenalty powerOf bOf power20Of squarings expOf expSeriesOf expTermOf positionsOf rotationsOf chainPositions chainRotations positionsFrom rotationsFrom positionAt rotationAt runs poseOf beforeOf startOf afterLink valueOf linkOf isNone offsetOf signedBy alongOf turnOf jointTurn aboutOf turnedBy carriedOf slideOf slidOf movedOf vecAt quatAt flatVec flatQuat firstIn total chainStart hasJoint jointsOf jointOf joints kindAt kindOf originOf zeroOf identityOf productOf axisOf twiceOf rotateOf quatZOf sineOf cosineOf seriesOf termOf sineDivisor cosineDivisor downFrom rootOf distanceOf pointOf closestOf endedOf innerOf addOf subOf scaleOf dotOf crossOf normOf cutOf blockRefusal jointFits valueFits linkValueFits blockFits badBlock every between within withinAt squaresOf nearOne unitAt freeOf rangedPair pairFits limitsFit badLimits linkFits badFloats loadRefusal lowest lowestFrom badSizes linksFit badLengths badCodes listedAt listedCode listedKind badJoints twoJoints laterFits chainLength add sub mul div neg eq ne lt le ofInt ofBits
+unfolding recordJoints recordLinks recordOf againOf jointEntry linkEntry againAt againBelow entriesOf endIn objectives goalObjectives limitObjective motionObjectives pairObjective allPairs chainPairs pairsOf pairsFrom grooveLoss swampLoss scaledOf boundsPenalty powerOf bOf power20Of squarings expOf expSeriesOf expTermOf positionsOf rotationsOf chainPositions chainRotations positionsFrom rotationsFrom positionAt rotationAt runs poseOf beforeOf startOf afterLink valueOf linkOf isNone offsetOf signedBy alongOf turnOf jointTurn aboutOf turnedBy carriedOf slideOf slidOf movedOf vecAt quatAt flatVec flatQuat firstIn total chainStart hasJoint jointsOf jointOf joints kindAt kindOf originOf zeroOf identityOf productOf axisOf twiceOf rotateOf quatZOf sineOf cosineOf seriesOf termOf sineDivisor cosineDivisor downFrom rootOf distanceOf pointOf closestOf endedOf innerOf addOf subOf scaleOf dotOf crossOf normOf cutOf blockRefusal jointFits valueFits linkValueFits blockFits badBlock every between within withinAt squaresOf nearOne unitAt freeOf rangedPair pairFits limitsFit badLimits linkFits badFloats loadRefusal lowest lowestFrom badSizes linksFit badLengths badCodes listedAt listedCode listedKind badJoints twoJoints laterFits chainLength add sub mul div neg eq ne lt le ofInt ofBits sizingOf plannedIf planOf sizingRefusal positionsLength rotationsLength chainLengths listed
 cases = record {
   groove-centre = refl;
   swamp-centre = refl;
@@ -131,7 +150,10 @@ cases = record {
   history = λ a b c n. refl;
   seven-joints = refl;
   six-and-three = refl;
+  seven-joints-sized = refl;
+  six-and-three-sized = refl;
   record-count = refl;
+  record-sized = refl;
   record-links = refl;
   record-joints = refl;
   record-poses = poses-walked;
@@ -140,5 +162,6 @@ cases = record {
   joint-taken = refl;
   joint-refused = refl;
   one-joint = refl;
+  one-joint-sized = refl;
   two-joints = refl;
 }

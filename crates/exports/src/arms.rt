@@ -1,16 +1,30 @@
 // The calls on an arm sheet, as little-endian bytes. The answer is the refusal's number, 0 where the call is accepted.
 use arm_bytes::arms;
 ghost use mathlib.Core.Path.{_≡_};
-ghost use Rattle.lent_bytes.specs.SheetLists.{sheetIn, blockIn, goalsIn, historyIn, roomOf};
-ghost use Rattle.arm_bytes.specs.ArmCalls.{loadNumber, setGoalsNumber, framesNumber, poseNumber, updateNumber, resetNumber};
+ghost use Rattle.lent_bytes.specs.SheetLists.{sizesIn, codesIn, linkFloatsIn, sheetIn, blockIn, goalsIn, historyIn, roomOf, numberRoomOf};
+ghost use Rattle.arm_bytes.specs.ArmCalls.{loadNumber, sizingNumber, planNumbers, setGoalsNumber, framesNumber, poseNumber, updateNumber, resetNumber};
 ghost use Rattle.arm_bytes.specs.ArmCalls.{manipulabilityNumber, framePositions, frameRotations, endPoses, updatedBlocks, resetBlocks};
-ghost use Rattle.arm_bytes.specs.ArmCalls.{manipulabilityValue, outputOf};
+ghost use Rattle.arm_bytes.specs.ArmCalls.{manipulabilityValue, outputOf, numbersOutputOf};
 
 #[no_mangle]
 pub extern "C" fn relaxed_ik_load(sizes: &[u8], codes: &[u8], floats: &[u8], limits: &[u8]) -> u32
     ensures { λ r. ⌜ r ≡ loadNumber (sheetIn sizes codes floats limits) ⌝ }
 {
     arms::load(sizes, codes, floats, limits)
+}
+
+// Positions, rotations, objectives, entries of the record: four u16s.
+#[no_mangle]
+pub extern "C" fn relaxed_ik_sizing(
+    sizes: &[u8],
+    codes: &[u8],
+    floats: &[u8],
+    plan: &mut [u8],
+) -> u32
+    ensures number { λ r. ⌜ r ≡ sizingNumber (sizesIn sizes) (codesIn codes) (linkFloatsIn floats) (numberRoomOf plan) ⌝ }
+    ensures plan { λ r. ⌜ now (plan .exit) ≡ numbersOutputOf r plan (planNumbers (sizesIn sizes) (codesIn codes)) ⌝ }
+{
+    arms::sizing(sizes, codes, floats, plan)
 }
 
 #[no_mangle]

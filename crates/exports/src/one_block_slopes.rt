@@ -1,10 +1,10 @@
 // The gradient on one block, as little-endian bytes. The answer is the refusal's number, 0 where the call is accepted.
 use one_block_bytes::slopes as bytes;
 ghost use mathlib.Core.Path.{_≡_};
-ghost use Rattle.lent_bytes.specs.SheetLists.{sheetIn, blockIn, goalsIn, historyIn, roomOf};
+ghost use Rattle.lent_bytes.specs.SheetLists.{sheetIn, blockIn, goalsIn, historyIn, roomOf, numberRoomOf};
 ghost use Rattle.arm_bytes.specs.ArmCalls.{outputOf};
 ghost use Rattle.objective_bytes.specs.ObjectiveCalls.{objectiveValue, gradientSlopes};
-ghost use Rattle.one_block_bytes.specs.OneBlockCalls.{oneBlockNumber, numberRoomOf, RecordWritten};
+ghost use Rattle.one_block_bytes.specs.OneBlockCalls.{oneBlockNumber, RecordWritten};
 
 // The joints are only read. The slopes are those by a step of 1e-7; the record has the joint raised, the link, and the pose after it.
 #[no_mangle]

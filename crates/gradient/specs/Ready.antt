@@ -12,8 +12,8 @@ use Rattle.task.specs.Task.{taskLength, Given, givenOf}
 use Rattle.spacetime.specs.Walk.{Sheet, listPose, framesOf, frames-pose}
 use Rattle.spacetime.specs.Frames.{Chains}
 use Rattle.manipulability.specs.View.{walkedAgain, viewOf}
-use Rattle.self_collision.specs.Pairs.{Paired, chainLengths}
-use Rattle.objective_master.specs.Objective.{sourceList, objectives}
+use Rattle.self_collision.specs.Pairs.{Paired}
+use Rattle.objective_master.specs.Objective.{objectiveCount}
 use Rattle.objective_master.specs.Losses.{Lent, lossesOf}
 use Rattle.objective_master.specs.Kinds.{kindsOf, kinds-length}
 use Rattle.objective_master.specs.Cached.{Cached}
@@ -66,7 +66,7 @@ module _ (ns cs : List ℕ) (task gs x : List Float) (r : Ready ns cs task gs x)
   kinds-most = omega (arith, kinds-length ns cs, objectives-few ns cs (r .paired .counted) (r .two))
 
   -- ---- as `relaxed_ik` leaves the list
-  pub kinds-listed : (rest list : List ℕ) (n : ℕ) → length list ≡ 131 → n ≡ length (objectives sourceList (chainLengths ns cs)) → list ≡ splice rest 0 (kindsOf ns cs) → KindsListed ns cs list n
+  pub kinds-listed : (rest list : List ℕ) (n : ℕ) → length list ≡ 131 → n ≡ objectiveCount ns cs → list ≡ splice rest 0 (kindsOf ns cs) → KindsListed ns cs list n
   kinds-listed rest list n long e h =
       let f : take n list ≡ kindsOf ns cs = ap (take n) h ∙ part-splice rest 0 n (kindsOf ns cs) (omega arith) (kinds-length ns cs ∙ sym e) in
       let m : length (take n list) ≡ n = ap length f ∙ kinds-length ns cs ∙ sym e in

@@ -5,7 +5,7 @@ use Prim.Native.Nat.{ℕ}
 use lib.Ieee.{Float}
 use lib.ListN.{length, take}
 use Rattle.lists.specs.Lent.{LentList, lent}
-use Rattle.lent_bytes.specs.Lent.{Front, numbersIn, floatsIn, roomIn}
+use Rattle.lent_bytes.specs.Lent.{Front, numbersIn, floatsIn, roomIn, numberRoomIn}
 use Rattle.lent_bytes.specs.declared.sheet_lists.SheetCounts.{SheetCounts}
 use Rattle.lent_bytes.specs.declared.task_lists.TaskCounts.{TaskCounts}
 
@@ -19,12 +19,31 @@ pub record SheetLists : Type 0 where
 abbrev pub sheetWith : List ℕ → List ℕ → List Float → List Float → SheetLists
 sheetWith sizes codes floats limits = record { sizes = sizes; codes = codes; floats = floats; limits = limits }
 
--- as decoded lists, and as bytes, each with the longest that is taken
+-- as decoded lists
 abbrev pub sheetOf : {X Y Z W : Type 0} → LentList ℕ X → LentList ℕ Y → LentList Float Z → LentList Float W → SheetLists
 sheetOf sizes codes floats limits = sheetWith (lent sizes) (lent codes) (lent floats) (lent limits)
 
+-- as bytes, each list with the longest that is taken
+abbrev pub sizesFrom : List ℕ → List ℕ
+sizesFrom sizes = numbersIn 5 sizes
+
+abbrev pub codesFrom : List ℕ → List ℕ
+codesFrom codes = numbersIn 64 codes
+
+abbrev pub linkFloatsFrom : List ℕ → List Float
+linkFloatsFrom floats = floatsIn 448 floats
+
 abbrev pub sheetFrom : List ℕ → List ℕ → List ℕ → List ℕ → SheetLists
-sheetFrom sizes codes floats limits = sheetWith (numbersIn 5 sizes) (numbersIn 64 codes) (floatsIn 448 floats) (floatsIn 32 limits)
+sheetFrom sizes codes floats limits = sheetWith (sizesFrom sizes) (codesFrom codes) (linkFloatsFrom floats) (floatsIn 32 limits)
+
+abbrev pub sizesIn : {X : Type 0} → LentList ℕ X → List ℕ
+sizesIn sizes = sizesFrom (lent sizes)
+
+abbrev pub codesIn : {X : Type 0} → LentList ℕ X → List ℕ
+codesIn codes = codesFrom (lent codes)
+
+abbrev pub linkFloatsIn : {X : Type 0} → LentList ℕ X → List Float
+linkFloatsIn floats = linkFloatsFrom (lent floats)
 
 abbrev pub sheetIn : {X Y Z W : Type 0} → LentList ℕ X → LentList ℕ Y → LentList ℕ Z → LentList ℕ W → SheetLists
 sheetIn sizes codes floats limits = sheetFrom (lent sizes) (lent codes) (lent floats) (lent limits)
@@ -48,9 +67,12 @@ goalsIn goals = goalsFrom (lent goals)
 abbrev pub historyIn : {X : Type 0} → LentList ℕ X → List Float
 historyIn history = historyFrom (lent history)
 
--- the room in floats of an output
+-- the room in floats of an output, and in u16s
 abbrev pub roomOf : {X : Type 0} → LentList ℕ X → ℕ
 roomOf out = roomIn (length (lent out))
+
+abbrev pub numberRoomOf : {X : Type 0} → LentList ℕ X → ℕ
+numberRoomOf out = numberRoomIn (length (lent out))
 
 -- the lists of a sheet at the fronts of four lists, n of each
 pub record SheetHeld (s : SheetLists) (n : SheetCounts) (sizes codes : List ℕ) (floats limits : List Float) : Type 0 where

@@ -7,30 +7,31 @@ use native.Mathlib.Omega.{arith}
 use lib.Ieee.{Float}
 use lib.ListN.{length}
 use Rattle.sheet.specs.Chain.{joints}
-use Rattle.refusals.specs.Lowest.{first-zero, first-some}
+use Rattle.refusals.specs.Lowest.{first-zero, first-is}
 use Rattle.refusals.specs.Refusal.{chainsOf, blockRefusal, historyRefusal}
+use Rattle.refusals.specs.Passed.{room-behind}
 use Rattle.lent_bytes.specs.Lent.{Misfit, floatsIn, roomIn, no-floats}
 use Rattle.lent_bytes.specs.SheetLists.{SheetLists}
 use Rattle.arm_bytes.specs.ArmCalls.{loadNumber}
-use Rattle.arm_bytes.specs.Ragged.{no-block, no-history, no-goals, after, ragged-output, second-output, shape, moving}
+use Rattle.arm_bytes.specs.Ragged.{no-block, no-history, no-goals, after, ragged-output, shape, moving}
 use Rattle.objective_bytes.specs.ObjectiveCalls.{taskNumber, objectiveNumber, slopesNumber}
 
 -- a call that is refused with one of 1 to 8
 module _ (s : SheetLists) (goals history x : List Float) (k : ℕ) (e : taskNumber s goals history x ≡ suc k) where
   pub objective-refused : (value : ℕ) → objectiveNumber s goals history x value ≡ suc k
   unfolding objectiveNumber
-  objective-refused value = first-some _ _ (λ z. omega (arith, e, z)) ∙ e
+  objective-refused value = first-is _ _ k e
 
   pub slopes-refused : (scratch value slopes : ℕ) → slopesNumber s goals history x scratch value slopes ≡ suc k
   unfolding slopesNumber
-  slopes-refused scratch value slopes = first-some _ _ (λ z. omega (arith, e, z)) ∙ e
+  slopes-refused scratch value slopes = first-is _ _ k e
 
 module _ (s : SheetLists) (e : loadNumber s ≡ 0) where
   pub ragged-joints : (goals history : List Float) (b : List ℕ) → Misfit 8 16 (length b) → taskNumber s goals history (floatsIn 16 b) ≡ 7
   unfolding taskNumber
   ragged-joints goals history b m =
       let seven : blockRefusal (s .codes) (floatsIn 16 b) ≡ 7 = rw (no-floats 16 b m) (no-block (s .codes) (omega (arith, moving s e))) in
-      after _ _ _ 6 e (first-some _ _ (λ z. omega (arith, seven, z)) ∙ seven)
+      after _ _ _ 6 e (first-is _ _ 6 seven)
 
   module _ (x : List Float) (q : blockRefusal (s .codes) x ≡ 0) where
     pub ragged-history : (goals : List Float) (b : List ℕ) → Misfit 8 64 (length b) → taskNumber s goals (floatsIn 64 b) x ≡ 7
@@ -59,10 +60,10 @@ module _ (s : SheetLists) (e : loadNumber s ≡ 0) where
     unfolding slopesNumber
     slopes-ragged-value scratch slopes =
         let nine = ragged-output 1 n (omega arith) m in
-        first-zero _ _ q ∙ second-output (joints (s .codes)) scratch _ (first-some _ _ (λ z. omega (arith, nine, z)) ∙ nine)
+        first-zero _ _ q ∙ room-behind (joints (s .codes)) scratch _ (first-is _ _ 8 nine)
 
     pub slopes-ragged-slopes : (scratch value : ℕ) → slopesNumber s goals history x scratch value (roomIn n) ≡ 9
     unfolding slopesNumber
     slopes-ragged-slopes scratch value =
         first-zero _ _ q
-        ∙ second-output (joints (s .codes)) scratch _ (second-output 1 value _ (ragged-output (joints (s .codes)) n (omega (arith, moving s e)) m))
+        ∙ room-behind (joints (s .codes)) scratch _ (room-behind 1 value _ (ragged-output (joints (s .codes)) n (omega (arith, moving s e)) m))

@@ -11,14 +11,14 @@ use Rattle.lists.specs.Runs.{runs}
 use Rattle.sheet.specs.Chain.{total, chainStart, chain-start-next, chain-start-total, jointOf, joints, joint-zero, joint-last, joint-mono, below-or, chainLength}
 use Rattle.manipulability.specs.Jacobian.{Counted, chain-part}
 use Rattle.self_collision.specs.Pairs.{chainPairs, allPairs, firstArm, chainLengths, triangle, count-more, chain-count, lengths-count}
-use Rattle.objective_master.specs.Objective.{goalWidth, sourceList, objectives, count}
+use Rattle.objective_master.specs.Objective.{goalWidth, sourceList, objectiveCount, count}
 use Rattle.objective_master.specs.Losses.{lengths-total}
 
 -- ---- laws
 
 -- the count by chains, joints and pairs
 pub count-is : (ns cs : List ℕ) (j s : ℕ) → total ns ≡ length cs → j ≡ jointOf cs (chainStart ns (length ns)) → s ≡ length (runs (chainPairs firstArm (chainLengths ns cs)) 0 (length ns))
-    → goalWidth * length ns + j + 4 + s ≡ length (objectives sourceList (chainLengths ns cs))
+    → goalWidth * length ns + j + 4 + s ≡ objectiveCount ns cs
 unfolding allPairs
 count-is ns cs j s w e₁ e₂ =
     let n : length (chainLengths ns cs) ≡ length ns = lengths-count ns cs in
@@ -64,7 +64,7 @@ module _ (ns cs : List ℕ) (s : Counted ns cs) (two : (c : ℕ) → c < length 
       more : (c : ℕ) → length (runs (chainPairs firstArm (chainLengths ns cs)) 0 (suc c)) ≡ length (runs (chainPairs firstArm (chainLengths ns cs)) 0 c) + length (chainPairs firstArm (chainLengths ns cs) c)
       more c = rw add-one at (count-more (chainPairs firstArm (chainLengths ns cs)) c)
 
-  pub objectives-few : length (objectives sourceList (chainLengths ns cs)) ≤ 131
+  pub objectives-few : objectiveCount ns cs ≤ 131
   unfolding chainStart
   objectives-few =
       let c = count-is ns cs (jointOf cs (chainStart ns (length ns))) (length (runs (chainPairs firstArm (chainLengths ns cs)) 0 (length ns))) (s .whole) refl refl in

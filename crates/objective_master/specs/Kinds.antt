@@ -8,7 +8,7 @@ use Rattle.lists.specs.Splice.{splice, splice-splice}
 use Rattle.lists.specs.Runs.{runs, length-runs}
 use Rattle.sheet.specs.Chain.{total, joints}
 use Rattle.self_collision.specs.Pairs.{Pair, allPairs, firstArm, chainLengths, lengths-count}
-use Rattle.objective_master.specs.Objective.{goalWidth, goalObjectives, motionObjectives, pairObjective, sourceList, objectives, sections, count}
+use Rattle.objective_master.specs.Objective.{goalWidth, goalObjectives, motionObjectives, pairObjective, sourceList, objectives, objectiveCount, sections, count}
 use Rattle.objective_master.specs.Weights.{kindNumber}
 use Rattle.objective_master.specs.Losses.{lengths-total}
 
@@ -39,7 +39,7 @@ pub one-kind : (k i : ℕ) → length (onlyKind k i) ≡ 1
 unfolding onlyKind
 one-kind k i = refl
 
-pub kinds-length : (ns cs : List ℕ) → length (kindsOf ns cs) ≡ length (objectives sourceList (chainLengths ns cs))
+pub kinds-length : (ns cs : List ℕ) → length (kindsOf ns cs) ≡ objectiveCount ns cs
 kinds-length ns cs = length-map (objectives sourceList (chainLengths ns cs)) kindNumber
 
 -- a kind for each pair

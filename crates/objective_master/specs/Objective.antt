@@ -8,7 +8,7 @@ use lib.ListN.{length, getD, length-append, length-map, List·getD-append}
 use lib.Seq.{getD-append-add}
 use Rattle.lists.specs.Runs.{runs, length-runs, getD-runs}
 use Rattle.sheet.specs.Chain.{total}
-use Rattle.self_collision.specs.Pairs.{Pair, allPairs, firstArm, map-runs}
+use Rattle.self_collision.specs.Pairs.{Pair, allPairs, firstArm, chainLengths, map-runs}
 
 -- an objective: of a chain and an axis, of a joint, of all joints, or of an arm and two links
 pub data Objective : Type 0 where
@@ -61,6 +61,10 @@ sourceList = record { goals = goalObjectives; width = goalWidth; wide = goal-cou
 unfoldable pub objectives : Pick → List ℕ → List Objective
 objectives pick lens =
     runs (pick .goals) 0 (length lens) ++ (runs limitObjective 0 (total lens) ++ (motionObjectives ++ map pairObjective (allPairs (pick .arms) lens)))
+
+-- how many objectives a sheet has, of ns links per chain and codes cs
+abbrev pub objectiveCount : List ℕ → List ℕ → ℕ
+objectiveCount ns cs = length (objectives sourceList (chainLengths ns cs))
 
 -- ---- laws
 map-map : {A B C : Type 0} (h : A → B) (f : C → A) (xs : List C) → map h (map f xs) ≡ map (λ c. h (f c)) xs

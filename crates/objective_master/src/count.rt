@@ -5,8 +5,8 @@ ghost use mathlib.Core.Path.{_≡_};
 ghost use Prim.Native.Nat.{_-_, _≤_};
 ghost use lib.ListN.{length};
 ghost use Rattle.manipulability.specs.Jacobian.{Counted};
-ghost use Rattle.self_collision.specs.Pairs.{chainLengths, triangle};
-ghost use Rattle.objective_master.specs.Objective.{sourceList, objectives};
+ghost use Rattle.self_collision.specs.Pairs.{triangle};
+ghost use Rattle.objective_master.specs.Objective.{objectiveCount};
 
 // The pairs that a chain of n joints adds.
 fn pair_count(n: usize) -> usize
@@ -24,7 +24,7 @@ fn pair_count(n: usize) -> usize
 
 pub fn objective_count(counts: &[u16], codes: &[u16]) -> usize
     requires { ⌜ Counted (now counts) (now codes) × (length (now counts) ≤ 4) ⌝ }
-    ensures { λ r. ⌜ r ≡ length (objectives sourceList (chainLengths (now (counts .entry)) (now (codes .entry)))) ⌝ }
+    ensures { λ r. ⌜ r ≡ objectiveCount (now (counts .entry)) (now (codes .entry)) ⌝ }
 {
     let mut s: usize = 0;
     let mut l: usize = 0;

@@ -7,8 +7,7 @@ ghost use lib.ListN.{length};
 ghost use Rattle.lists.specs.Splice.{splice};
 ghost use Rattle.lists.specs.Runs.{runs};
 ghost use Rattle.manipulability.specs.Jacobian.{Counted};
-ghost use Rattle.self_collision.specs.Pairs.{chainLengths};
-ghost use Rattle.objective_master.specs.Objective.{goalWidth, sourceList, objectives};
+ghost use Rattle.objective_master.specs.Objective.{goalWidth, objectiveCount};
 ghost use Rattle.objective_master.specs.Kinds.{goalKinds, motionKinds, onlyKind, kindsOf};
 
 // How many objectives a chain's goal has.
@@ -61,8 +60,8 @@ fn put_motion(at: usize, kinds: &mut [u16])
 // Writes the list to the front of `kinds`, and answers its length.
 pub fn relaxed_ik(counts: &[u16], codes: &[u16], kinds: &mut [u16]) -> usize
     requires { ⌜ Counted (now counts) (now codes) × (length (now counts) ≤ 4) ⌝ }
-    requires { ⌜ length (objectives sourceList (chainLengths (now counts) (now codes))) ≤ length (now kinds) ⌝ }
-    ensures { λ r. ⌜ r ≡ length (objectives sourceList (chainLengths (now (counts .entry)) (now (codes .entry)))) ⌝ }
+    requires { ⌜ objectiveCount (now counts) (now codes) ≤ length (now kinds) ⌝ }
+    ensures { λ r. ⌜ r ≡ objectiveCount (now (counts .entry)) (now (codes .entry)) ⌝ }
     ensures { λ _. ⌜ now (kinds .exit) ≡ splice (now (kinds .entry)) 0 (kindsOf (now (counts .entry)) (now (codes .entry))) ⌝ }
 {
     let n = count::objective_count(counts, codes);

@@ -310,7 +310,8 @@ fn entries_again(counts: &[u16], codes: &[u16], link: usize) -> usize
     if !chain::has_joint_at(codes, link) {
         return 0;
     }
-    chain::chain_end(counts, link) - link
+    let past = chain::chain_end(counts, link);
+    past - link
 }
 
 // The number of entries that `gradient` writes.

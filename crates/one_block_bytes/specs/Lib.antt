@@ -2,3 +2,4 @@ pub mod OneBlockCalls
 pub mod OneBlockLaws
 pub mod Numbers
 pub mod Ragged
+pub mod Planned

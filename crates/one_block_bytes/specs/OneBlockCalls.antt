@@ -10,12 +10,10 @@ use Rattle.refusals.specs.Lengths.{slopesLength, valueLength}
 use Rattle.refusals.specs.Lowest.{firstOf}
 use Rattle.refusals.specs.Refusal.{linksOf, roomRefusal}
 use Rattle.one_block.specs.Record.{entriesOf, recordJoints, recordLinks, recordPoses}
-use Rattle.calls.specs.Arms.{ifTaken}
 use Rattle.calls.specs.OneBlock.{recordRefusal}
-use Rattle.lent_bytes.specs.Lent.{numberRoomIn, bytesOfNumbers}
 use Rattle.lists.specs.Lent.{lent, LentList}
 use Rattle.lent_bytes.specs.SheetLists.{SheetLists}
-use Rattle.arm_bytes.specs.ArmCalls.{outputOf}
+use Rattle.arm_bytes.specs.ArmCalls.{outputOf, numbersOutputOf}
 use Rattle.objective_bytes.specs.ObjectiveCalls.{taskNumber}
 
 -- the record's entries
@@ -37,14 +35,6 @@ recordLinksIn s = recordLinks (linksOf (s .sizes)) (s .codes)
 
 unfoldable pub recordPosesIn : SheetLists → List Float → List Float
 recordPosesIn s x = recordPoses (linksOf (s .sizes)) (s .codes) (s .floats) x
-
--- the room in u16s of an output
-abbrev pub numberRoomOf : {X : Type 0} → LentList ℕ X → ℕ
-numberRoomOf out = numberRoomIn (length (lent out))
-
--- an output of u16s after a call of number r: the bytes at its front, its tail kept; as it was where the call is refused
-abbrev pub numbersOutputOf : {X : Type 0} → ℕ → LentList ℕ X → List ℕ → List ℕ
-numbersOutputOf r out answer = ifTaken r (lent out) (splice (lent out) 0 (bytesOfNumbers answer))
 
 -- the record's three lists at the fronts of three lists
 abbrev pub RecordHeld : SheetLists → List Float → LentList ℕ (RefT (List ℕ)) → LentList ℕ (RefT (List ℕ)) → LentList Float (RefT (List Float)) → Type 0

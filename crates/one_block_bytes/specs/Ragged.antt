@@ -6,36 +6,27 @@ use Prim.Native.Nat.{ℕ, suc, _*_, _%_, _≤_}
 use native.Mathlib.Omega.{arith}
 use lib.Ieee.{Float}
 use lib.ListN.{length}
-use borrow.Author.Tests.{ne-eqb, lt-ltb}
 use Rattle.sheet.specs.Chain.{joints, joint-le, joint-last}
-use Rattle.refusals.specs.Lowest.{firstOf, first-zero, first-some, first-none}
-use Rattle.refusals.specs.Refusal.{roomRefusal}
+use Rattle.refusals.specs.Lowest.{first-zero, first-is, first-none}
+use Rattle.refusals.specs.Passed.{room-behind}
 use Rattle.one_block.specs.Record.{entriesOf}
 use Rattle.calls.specs.OneBlock.{recordRefusal}
 use Rattle.lent_bytes.specs.Lent.{roomIn, numberRoomIn}
 use Rattle.lent_bytes.specs.SheetLists.{SheetLists}
 use Rattle.arm_bytes.specs.ArmCalls.{loadNumber}
-use Rattle.arm_bytes.specs.Ragged.{after, ragged-output, second-output, moving}
+use Rattle.arm_bytes.specs.Ragged.{after, ragged-output, ragged-numbers, moving}
 use Rattle.objective_bytes.specs.ObjectiveCalls.{taskNumber}
 use Rattle.one_block_bytes.specs.OneBlockCalls.{entriesIn, oneBlockNumber}
-
-some-first : (a b k : ℕ) → a ≡ suc k → firstOf a b ≡ suc k
-some-first a b k e = first-some a b (λ z. omega (arith, e, z)) ∙ e
 
 -- a call that is refused with one of 1 to 8
 module _ (s : SheetLists) (goals history x : List Float) (value slopes rj rl rp k : ℕ) where
   pub one-block-refused : taskNumber s goals history x ≡ suc k → oneBlockNumber s goals history x value slopes rj rl rp ≡ suc k
   unfolding oneBlockNumber
-  one-block-refused e = some-first _ _ k e
+  one-block-refused e = first-is _ _ k e
 
   pub one-block-sheet-refused : loadNumber s ≡ suc k → oneBlockNumber s goals history x value slopes rj rl rp ≡ suc k
   unfolding taskNumber
-  one-block-sheet-refused e = one-block-refused (some-first _ _ k e)
-
--- an output of u16s that is ragged has no room
-ragged-numbers : (needed n : ℕ) → 1 ≤ needed → (n % 2 ≡ 0 → ⊥) → roomRefusal needed (numberRoomIn n) ≡ 9
-unfolding roomRefusal numberRoomIn
-ragged-numbers needed n h m = rw (ne-eqb (n % 2) 0 m, lt-ltb 0 needed h)
+  one-block-sheet-refused e = one-block-refused (first-is _ _ k e)
 
 -- on input that is taken
 module _ (s : SheetLists) (goals history x : List Float) (q : taskNumber s goals history x ≡ 0) where
@@ -51,7 +42,7 @@ module _ (s : SheetLists) (goals history x : List Float) (q : taskNumber s goals
   -- value and slopes come first, and have the same number
   record-refused : (value slopes rj rl rp : ℕ) → recordRefusal (entriesIn s) rj rl rp ≡ 9 → oneBlockNumber s goals history x value slopes rj rl rp ≡ 9
   unfolding oneBlockNumber
-  record-refused value slopes rj rl rp e = first-zero _ _ q ∙ second-output 1 value _ (second-output (joints (s .codes)) slopes _ e)
+  record-refused value slopes rj rl rp e = first-zero _ _ q ∙ room-behind 1 value _ (room-behind (joints (s .codes)) slopes _ e)
 
   -- an output of floats of n bytes
   module _ (n : ℕ) (m : n % 8 ≡ 0 → ⊥) where
@@ -62,23 +53,23 @@ module _ (s : SheetLists) (goals history x : List Float) (q : taskNumber s goals
     pub one-block-ragged-slopes : (value rj rl rp : ℕ) → oneBlockNumber s goals history x value (roomIn n) rj rl rp ≡ 9
     unfolding oneBlockNumber
     one-block-ragged-slopes value rj rl rp =
-        first-zero _ _ q ∙ second-output 1 value _ (some-first _ _ 8 (ragged-output (joints (s .codes)) n (omega (arith, jointed)) m))
+        first-zero _ _ q ∙ room-behind 1 value _ (first-is _ _ 8 (ragged-output (joints (s .codes)) n (omega (arith, jointed)) m))
 
     pub one-block-ragged-record-poses : (value slopes rj rl : ℕ) → oneBlockNumber s goals history x value slopes rj rl (roomIn n) ≡ 9
     unfolding recordRefusal
     one-block-ragged-record-poses value slopes rj rl =
         record-refused value slopes rj rl (roomIn n)
-        (second-output (entriesIn s) rj _ (second-output (entriesIn s) rl _ (ragged-output (7 * entriesIn s) n (omega (arith, entries-some)) m)))
+        (room-behind (entriesIn s) rj _ (room-behind (entriesIn s) rl _ (ragged-output (7 * entriesIn s) n (omega (arith, entries-some)) m)))
 
   -- an output of u16s of n bytes
   module _ (n : ℕ) (m : n % 2 ≡ 0 → ⊥) where
     pub one-block-ragged-record-joints : (value slopes rl rp : ℕ) → oneBlockNumber s goals history x value slopes (numberRoomIn n) rl rp ≡ 9
     unfolding recordRefusal
     one-block-ragged-record-joints value slopes rl rp =
-        record-refused value slopes (numberRoomIn n) rl rp (some-first _ _ 8 (ragged-numbers (entriesIn s) n entries-some m))
+        record-refused value slopes (numberRoomIn n) rl rp (first-is _ _ 8 (ragged-numbers (entriesIn s) n entries-some m))
 
     pub one-block-ragged-record-links : (value slopes rj rp : ℕ) → oneBlockNumber s goals history x value slopes rj (numberRoomIn n) rp ≡ 9
     unfolding recordRefusal
     one-block-ragged-record-links value slopes rj rp =
         record-refused value slopes rj (numberRoomIn n) rp
-        (second-output (entriesIn s) rj _ (some-first _ _ 8 (ragged-numbers (entriesIn s) n entries-some m)))
+        (room-behind (entriesIn s) rj _ (first-is _ _ 8 (ragged-numbers (entriesIn s) n entries-some m)))

@@ -13,10 +13,10 @@ ghost use lib.ListN.{length, take};
 ghost use Rattle.lists.specs.Splice.{splice};
 ghost use Rattle.lent_bytes.specs.Lent.{roomIn, numberRoomIn, bytesOf, bytesOfNumbers};
 ghost use Rattle.lists.specs.Lent.{lent};
-ghost use Rattle.lent_bytes.specs.SheetLists.{sheetWith, sheetOf, roomOf};
+ghost use Rattle.lent_bytes.specs.SheetLists.{sheetWith, sheetOf, roomOf, numberRoomOf};
 ghost use Rattle.arm_bytes.specs.ArmCalls.{outputOf};
 ghost use Rattle.objective_bytes.specs.ObjectiveCalls.{taskNumber, valueIn, objectiveValue, gradientSlopes};
-ghost use Rattle.one_block_bytes.specs.OneBlockCalls.{entriesIn, oneBlockNumber, numberRoomOf, RecordHeld, RecordWritten};
+ghost use Rattle.one_block_bytes.specs.OneBlockCalls.{entriesIn, oneBlockNumber, RecordHeld, RecordWritten};
 ghost use Rattle.one_block_bytes.specs.OneBlockLaws.{Counted, Fitted};
 
 fn entries(sizes: &[u16], codes: &[u16], floats: &[f64], limits: &[f64]) -> usize

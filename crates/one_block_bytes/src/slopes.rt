@@ -3,10 +3,10 @@ use crate::one_block_lists;
 use lent_bytes::sheet_lists;
 use lent_bytes::task_lists;
 ghost use mathlib.Core.Path.{_≡_};
-ghost use Rattle.lent_bytes.specs.SheetLists.{sheetIn, blockIn, goalsIn, historyIn, roomOf};
+ghost use Rattle.lent_bytes.specs.SheetLists.{sheetIn, blockIn, goalsIn, historyIn, roomOf, numberRoomOf};
 ghost use Rattle.arm_bytes.specs.ArmCalls.{outputOf};
 ghost use Rattle.objective_bytes.specs.ObjectiveCalls.{objectiveValue, gradientSlopes};
-ghost use Rattle.one_block_bytes.specs.OneBlockCalls.{oneBlockNumber, numberRoomOf, RecordWritten};
+ghost use Rattle.one_block_bytes.specs.OneBlockCalls.{oneBlockNumber, RecordWritten};
 
 // The joints are decoded once, into the block that is raised; their bytes are only read.
 pub fn gradient_one_block(

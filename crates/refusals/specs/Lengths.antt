@@ -40,6 +40,10 @@ historyLength cs = 4 * joints cs
 abbrev pub valueLength : ℕ
 valueLength = 1
 
+-- what sizing writes: four u16s
+abbrev pub planLength : ℕ
+planLength = 4
+
 -- the poses of a record: seven floats an entry
 abbrev pub recordPosesLength : ℕ → ℕ
 recordPosesLength entries = 7 * entries

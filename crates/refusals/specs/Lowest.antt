@@ -2,7 +2,7 @@
 use mathlib.Core.Path.{_≡_, refl, sym, _∙_}
 use mathlib.Core.Bool.{Bool, true, false, cond}
 use mathlib.Core.List.{List, [], _∷_}
-use Prim.Native.Nat.{ℕ, zero, suc, _-_, _≤_, _<_}
+use Prim.Native.Nat.{ℕ, zero, suc, _+_, _-_, _≤_, _<_}
 use native.Mathlib.Omega.{arith}
 use lib.Dec.{eqb}
 use lib.ListN.{getD, length}
@@ -70,6 +70,17 @@ pub none-lowest : (bs : List Bool) → ((i : ℕ) → i < length bs → getD bs 
 unfolding lowest
 none-lowest bs f = from-none 1 bs f
 
+most-from : (k : ℕ) (bs : List Bool) → lowestFrom (suc k) bs ≤ k + length bs
+unfolding lowestFrom
+most-from k [] = omega arith
+most-from k (true ∷ bs) = omega arith
+most-from k (false ∷ bs) = omega (arith, most-from (suc k) bs)
+
+-- no number is higher than there are conditions
+pub lowest-most : (bs : List Bool) → lowest bs ≤ length bs
+unfolding lowest
+lowest-most bs = omega (arith, most-from 0 bs)
+
 pub first-zero : (a b : ℕ) → a ≡ 0 → firstOf a b ≡ b
 unfolding firstOf
 first-zero a b e = rw (eq-eqb a 0 e)
@@ -77,6 +88,13 @@ first-zero a b e = rw (eq-eqb a 0 e)
 pub first-some : (a b : ℕ) → (a ≡ 0 → ⊥) → firstOf a b ≡ a
 unfolding firstOf
 first-some a b h = rw (ne-eqb a 0 h)
+
+pub first-is : (a b k : ℕ) → a ≡ suc k → firstOf a b ≡ suc k
+first-is a b k e = first-some a b (λ z. omega (arith, e, z)) ∙ e
+
+pub first-most : (a b n : ℕ) → a ≤ n → b ≤ n → firstOf a b ≤ n
+first-most zero b n h k = omega (arith, first-zero 0 b refl)
+first-most (suc a) b n h k = omega (arith, first-some (suc a) b (λ z. omega arith))
 
 -- only two that are 0 give 0
 pub first-none : (a b : ℕ) → firstOf a b ≡ 0 → (a ≡ 0) × (b ≡ 0)

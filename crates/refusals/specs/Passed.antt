@@ -4,15 +4,15 @@ use mathlib.Core.Bool.{Bool, true, false, cond, _||_}
 use mathlib.Core.List.{List, [], _∷_}
 use Prim.Native.Nat.{ℕ, suc, _+_, _*_, _≤_, _<_}
 use native.Mathlib.Omega.{arith}
-use lib.Dec.{leb, eqb}
+use lib.Dec.{leb, ltb, eqb}
 use lib.Ieee.{Float}
 use lib.ListN.{length, getD, length-drop}
-use borrow.Author.Tests.{ltb-false, le-ltb, leb-true, eqb-true, ne-eqb, not-false}
+use borrow.Author.Tests.{ltb-false, le-ltb, lt-ltb, leb-true, eqb-true, ne-eqb, not-false}
 use Rattle.sheet.specs.Chain.{total, joints, chainLength}
 use Rattle.lists.specs.Tests.{and-true}
 use Rattle.refusals.specs.Range.{every-at, between}
-use Rattle.refusals.specs.Lowest.{lowestFrom, lowest, lowest-found, lowest-none, none-lowest, firstOf, first-none}
-use Rattle.refusals.specs.Refusal.{chainsOf, linksOf, linksFit, badSizes, badLengths, listedCode, listedAt, badCodes, twoJoints, laterFits, badJoints, badLimits, badFloats, badBlock, badHistory, badGoals, shapeConditions, shapeRefusal, loadConditions, loadRefusal, blockRefusal, historyRefusal, goalsRefusal, roomRefusal}
+use Rattle.refusals.specs.Lowest.{lowestFrom, lowest, lowest-found, lowest-none, none-lowest, lowest-most, firstOf, first-zero, first-is, first-none}
+use Rattle.refusals.specs.Refusal.{chainsOf, linksOf, linksFit, badSizes, badLengths, listedCode, listedAt, badCodes, twoJoints, laterFits, badJoints, badLimits, badFloats, badBlock, badHistory, badGoals, shapeConditions, shapeRefusal, sheetConditions, loadConditions, loadRefusal, sizingRefusal, blockRefusal, historyRefusal, goalsRefusal, roomRefusal}
 
 -- ---- loading: the number is that of the lowest condition that holds, and 0 exactly if none does
 module _ (sizes codes : List ℕ) (floats limits : List Float) where
@@ -42,11 +42,38 @@ six false false false false false true = refl
 six false false false false false false = refl
 
 -- the first four do not ask for the limits
+pub sheet-first : (sizes codes : List ℕ) (floats : List Float) (five : Bool) → lowest (sheetConditions sizes codes floats five)
+    ≡ firstOf (shapeRefusal sizes codes (length floats)) (firstOf (cond five 5 0) (cond (badFloats (length codes) floats) 6 0))
+unfolding shapeRefusal
+sheet-first sizes codes floats five = six _ _ _ _ _ _
+
 pub load-first : (sizes codes : List ℕ) (floats limits : List Float) → loadRefusal sizes codes floats limits
     ≡ firstOf (shapeRefusal sizes codes (length floats))
     (firstOf (cond (badLimits (joints codes) limits) 5 0) (cond (badFloats (length codes) floats) 6 0))
-unfolding loadRefusal shapeRefusal
-load-first sizes codes floats limits = six _ _ _ _ _ _
+unfolding loadRefusal
+load-first sizes codes floats limits = sheet-first sizes codes floats (badLimits (joints codes) limits)
+
+-- ---- sizing: what loading asks, but for the limits
+pub sizing-first : (sizes codes : List ℕ) (floats : List Float) → sizingRefusal sizes codes floats
+    ≡ firstOf (shapeRefusal sizes codes (length floats)) (cond (badFloats (length codes) floats) 6 0)
+unfolding sizingRefusal
+sizing-first sizes codes floats =
+    sheet-first sizes codes floats false
+    ∙ ap (firstOf (shapeRefusal sizes codes (length floats))) (first-zero 0 (cond (badFloats (length codes) floats) 6 0) refl)
+
+module _ (sizes codes : List ℕ) (floats limits : List Float) where
+  -- with good limits both get the same number
+  pub load-as-sizing : badLimits (joints codes) limits ≡ false → loadRefusal sizes codes floats limits ≡ sizingRefusal sizes codes floats
+  unfolding loadRefusal sizingRefusal
+  load-as-sizing good = ap (λ (five : Bool). lowest (sheetConditions sizes codes floats five)) good
+
+  -- a sheet that loading takes is taken by sizing
+  pub load-sizing : loadRefusal sizes codes floats limits ≡ 0 → sizingRefusal sizes codes floats ≡ 0
+  load-sizing e = sym (load-as-sizing (load-none sizes codes floats limits e 4)) ∙ e
+
+  -- one that sizing takes, with good limits, by loading
+  pub sizing-load : sizingRefusal sizes codes floats ≡ 0 → badLimits (joints codes) limits ≡ false → loadRefusal sizes codes floats limits ≡ 0
+  sizing-load e good = load-as-sizing good ∙ e
 
 -- ---- the sizes list
 or-none : (a b : Bool) → (a || b) ≡ false → (a ≡ false) × (b ≡ false)
@@ -169,3 +196,38 @@ room-passed needed have e = ltb-false have needed (passed _ 8 e)
 pub room-enough : (needed have : ℕ) → needed ≤ have → roomRefusal needed have ≡ 0
 unfolding roomRefusal
 room-enough needed have h = rw (le-ltb have needed h)
+
+-- one that is too short
+pub room-short : (needed have : ℕ) → have < needed → roomRefusal needed have ≡ 9
+unfolding roomRefusal
+room-short needed have h = rw (lt-ltb have needed h)
+
+-- also behind another list
+pub room-behind : (needed have k : ℕ) → k ≡ 9 → firstOf (roomRefusal needed have) k ≡ 9
+unfolding roomRefusal
+room-behind needed have k q = pick (ltb have needed)
+  where
+    pick : (t : Bool) → firstOf (cond t 9 0) k ≡ 9
+    pick true = first-is 9 k 8 refl
+    pick false = first-zero 0 k refl ∙ q
+
+-- ---- how high the numbers before 9 are
+test-most : (t : Bool) (k : ℕ) → cond t k 0 ≤ k
+test-most true k = omega arith
+test-most false k = omega arith
+
+pub load-most : (sizes codes : List ℕ) (floats limits : List Float) → loadRefusal sizes codes floats limits ≤ 6
+unfolding loadRefusal
+load-most sizes codes floats limits = lowest-most (loadConditions sizes codes floats limits)
+
+pub block-most : (codes : List ℕ) (x : List Float) → blockRefusal codes x ≤ 7
+unfolding blockRefusal
+block-most codes x = test-most (badBlock codes x) 7
+
+pub history-most : (codes : List ℕ) (history : List Float) → historyRefusal codes history ≤ 7
+unfolding historyRefusal
+history-most codes history = test-most (badHistory codes history) 7
+
+pub goals-most : (chains : ℕ) (goals : List Float) → goalsRefusal chains goals ≤ 8
+unfolding goalsRefusal
+goals-most chains goals = test-most (badGoals chains goals) 8

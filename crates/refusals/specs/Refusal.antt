@@ -148,13 +148,24 @@ shapeConditions sizes codes floats =
 unfoldable pub shapeRefusal : List ℕ → List ℕ → ℕ → ℕ
 shapeRefusal sizes codes floats = lowest (shapeConditions sizes codes floats)
 
--- of loading: conditions 1 to 6
+-- of a sheet: conditions 1 to 6, of which the fifth, on the limits, is given
+abbrev pub sheetConditions : List ℕ → List ℕ → List Float → Bool → List Bool
+sheetConditions sizes codes floats five =
+    shapeConditions sizes codes (length floats) ++ (five ∷ badFloats (length codes) floats ∷ [])
+
+-- of loading
 abbrev pub loadConditions : List ℕ → List ℕ → List Float → List Float → List Bool
-loadConditions sizes codes floats limits =
-    shapeConditions sizes codes (length floats) ++ (badLimits (joints codes) limits ∷ badFloats (length codes) floats ∷ [])
+loadConditions sizes codes floats limits = sheetConditions sizes codes floats (badLimits (joints codes) limits)
 
 unfoldable pub loadRefusal : List ℕ → List ℕ → List Float → List Float → ℕ
 loadRefusal sizes codes floats limits = lowest (loadConditions sizes codes floats limits)
+
+-- of sizing: as at loading, but 5 is no part of it
+abbrev pub sizingConditions : List ℕ → List ℕ → List Float → List Bool
+sizingConditions sizes codes floats = sheetConditions sizes codes floats false
+
+unfoldable pub sizingRefusal : List ℕ → List ℕ → List Float → ℕ
+sizingRefusal sizes codes floats = lowest (sizingConditions sizes codes floats)
 
 -- of a joint block
 unfoldable pub blockRefusal : List ℕ → List Float → ℕ

@@ -13,7 +13,7 @@ use borrow.Author.Tests.{leb-true, le-leb}
 use Rattle.sheet.specs.Chain.{joints}
 use Rattle.lists.specs.Tests.{and-true}
 use Rattle.refusals.specs.Lowest.{lowestFrom, lowest, firstOf, first-zero, first-some, first-last}
-use Rattle.refusals.specs.Refusal.{linksOf, badSizes, badLengths, badCodes, badJoints, badLimits, badFloats, badBlock, badHistory, badGoals, loadRefusal, blockRefusal, historyRefusal, goalsRefusal, roomRefusal}
+use Rattle.refusals.specs.Refusal.{linksOf, badSizes, badLengths, badCodes, badJoints, badLimits, badFloats, badBlock, badHistory, badGoals, loadRefusal, sizingRefusal, blockRefusal, historyRefusal, goalsRefusal, roomRefusal}
 
 -- a condition and the number with which it refuses
 pub record Row : Type 0 where
@@ -53,11 +53,24 @@ abbrev pub Numbered : List Row → List Row → ℕ → Type 0
 Numbered state input n = ((n ≡ 0 → ⊥) × IsLowest state n) ⊎ (IsLowest state 0 × IsLowest input n)
 
 -- ---- the rows of what is lent
+-- a sheet's lengths and codes: 1 to 4
+abbrev pub shapeRows : List ℕ → List ℕ → ℕ → List Row
+shapeRows sizes codes floats =
+    row 1 (badSizes sizes) ∷ row 2 (badLengths (linksOf sizes) codes floats) ∷ row 3 (badCodes codes) ∷ row 4 (badJoints (linksOf sizes) codes) ∷ []
+
+abbrev pub limitsRow : ℕ → List Float → Row
+limitsRow joints limits = row 5 (badLimits joints limits)
+
+abbrev pub floatsRow : ℕ → List Float → Row
+floatsRow links floats = row 6 (badFloats links floats)
+
 -- loading: 1 to 6
 abbrev pub loadRows : List ℕ → List ℕ → List Float → List Float → List Row
-loadRows sizes codes floats limits =
-    row 1 (badSizes sizes) ∷ row 2 (badLengths (linksOf sizes) codes (length floats)) ∷ row 3 (badCodes codes) ∷ row 4 (badJoints (linksOf sizes) codes)
-    ∷ row 5 (badLimits (joints codes) limits) ∷ row 6 (badFloats (length codes) floats) ∷ []
+loadRows sizes codes floats limits = shapeRows sizes codes (length floats) ++ (limitsRow (joints codes) limits ∷ floatsRow (length codes) floats ∷ [])
+
+-- sizing: 1 to 4 and 6
+abbrev pub sizingRows : List ℕ → List ℕ → List Float → List Row
+sizingRows sizes codes floats = shapeRows sizes codes (length floats) ++ (floatsRow (length codes) floats ∷ [])
 
 abbrev pub blockRow : List ℕ → List Float → Row
 blockRow codes x = row 7 (badBlock codes x)
@@ -171,3 +184,13 @@ module _ (sizes codes : List ℕ) (floats limits : List Float) where
   pub load-lowest : IsLowest (loadRows sizes codes floats limits) (loadRefusal sizes codes floats limits)
   unfolding upFrom
   load-lowest = lowest-row _ _ refl (alone _ _ (load-row []))
+
+-- ---- sizing, alone and before the byte call's own row
+module _ (sizes codes : List ℕ) (floats : List Float) where
+  pub sizing-row : (rs : List Row) → firstOf (sizingRefusal sizes codes floats) (firstRow rs) ≡ firstRow (sizingRows sizes codes floats ++ rs)
+  unfolding sizingRefusal firstRow
+  sizing-row rs = load-then _ _ _ _ false _ (firstRow rs)
+
+  pub sizing-lowest : IsLowest (sizingRows sizes codes floats) (sizingRefusal sizes codes floats)
+  unfolding upFrom
+  sizing-lowest = lowest-row _ _ refl (alone _ _ (sizing-row []))

@@ -4,12 +4,12 @@ use mathlib.Core.List.{List, [], _∷_}
 use Prim.Native.Nat.{ℕ, _+_}
 use lib.ListN.{length}
 use lib.Ieee.{Float}
-use Rattle.lent_bytes.specs.Lent.{roomIn, bytesOf}
-use Rattle.lent_bytes.specs.SheetLists.{SheetLists, sheetFrom, blockFrom, goalsFrom, historyFrom}
-use Rattle.arm_bytes.specs.ArmCalls.{loadNumber, setGoalsNumber, framesNumber, poseNumber, updateNumber, resetNumber, manipulabilityNumber}
-use Rattle.arm_bytes.specs.ArmCalls.{framePositions, frameRotations, endPoses, updatedBlocks, resetBlocks, manipulabilityValue}
+use Rattle.lent_bytes.specs.Lent.{roomIn, numberRoomIn, bytesOf, bytesOfNumbers}
+use Rattle.lent_bytes.specs.SheetLists.{SheetLists, sizesFrom, codesFrom, linkFloatsFrom, sheetFrom, blockFrom, goalsFrom, historyFrom}
+use Rattle.arm_bytes.specs.ArmCalls.{loadNumber, sizingNumber, setGoalsNumber, framesNumber, poseNumber, updateNumber, resetNumber, manipulabilityNumber}
+use Rattle.arm_bytes.specs.ArmCalls.{planNumbers, framePositions, frameRotations, endPoses, updatedBlocks, resetBlocks, manipulabilityValue}
 use Rattle.stored_answers.specs.Stored.{listOf}
-use Rattle.replay.specs.Table.{sizesList, codesList, floatsList, limitsList, goalsList, updateHistory, updateJoints, updateOutput, armJoints, armOutputs}
+use Rattle.replay.specs.Table.{sizesList, codesList, floatsList, limitsList, goalsList, updateHistory, updateJoints, updateOutput, armJoints, armOutputs, planOutput}
 use Rattle.stored_answers.specs.Agree.{written, answerAgrees}
 
 -- what the record at a place lends the call
@@ -27,6 +27,9 @@ historyAt s at k = historyFrom (listOf s at k)
 
 abbrev pub roomAt : List ℕ → ℕ → ℕ → ℕ
 roomAt s at k = roomIn (length (listOf s at k))
+
+abbrev pub numberRoomAt : List ℕ → ℕ → ℕ → ℕ
+numberRoomAt s at k = numberRoomIn (length (listOf s at k))
 
 unfoldable pub loadAgrees : List ℕ → ℕ → Bool
 loadAgrees s at = answerAgrees s at (loadNumber (sheetAt s at)) 0 []
@@ -82,3 +85,13 @@ unfoldable pub updateAgrees : List ℕ → ℕ → Bool
 updateAgrees s at =
     answerAgrees s at (updateAt s at) updateOutput
     (written (updateAt s at) (listOf s at updateOutput) (bytesOf (updatedBlocks (historyAt s at updateHistory) (blockAt s at updateJoints))) ∷ [])
+
+-- no limits; the plan
+abbrev sizingAt : List ℕ → ℕ → ℕ
+sizingAt s at =
+    sizingNumber (sizesFrom (listOf s at sizesList)) (codesFrom (listOf s at codesList)) (linkFloatsFrom (listOf s at floatsList)) (numberRoomAt s at planOutput)
+
+unfoldable pub sizingAgrees : List ℕ → ℕ → Bool
+sizingAgrees s at =
+    answerAgrees s at (sizingAt s at) planOutput
+    (written (sizingAt s at) (listOf s at planOutput) (bytesOfNumbers (planNumbers (sizesFrom (listOf s at sizesList)) (codesFrom (listOf s at codesList)))) ∷ [])

@@ -3,14 +3,13 @@ use mathlib.Core.Bool.{Bool}
 use mathlib.Core.List.{List, [], _∷_}
 use Prim.Native.Nat.{ℕ, _+_}
 use lib.Ieee.{Float}
-use lib.ListN.{length}
-use Rattle.lent_bytes.specs.Lent.{numberRoomIn, bytesOf, bytesOfNumbers}
+use Rattle.lent_bytes.specs.Lent.{bytesOf, bytesOfNumbers}
 use Rattle.objective_bytes.specs.ObjectiveCalls.{objectiveNumber, slopesNumber, objectiveValue, gradientSlopes, finiteDiffSlopes}
 use Rattle.one_block_bytes.specs.OneBlockCalls.{oneBlockNumber, recordJointsIn, recordLinksIn, recordPosesIn}
 use Rattle.stored_answers.specs.Stored.{listOf}
 use Rattle.stored_answers.specs.Agree.{written, answerAgrees}
 use Rattle.replay.specs.Table.{goalsList, historyList, jointsList, objectiveOutputs}
-use Rattle.replay.specs.Arms.{sheetAt, blockAt, goalsAt, historyAt, roomAt}
+use Rattle.replay.specs.Arms.{sheetAt, blockAt, goalsAt, historyAt, roomAt, numberRoomAt}
 
 abbrev pub valueAt : List ℕ → ℕ → List Float
 valueAt s at = objectiveValue (sheetAt s at) (goalsAt s at goalsList) (historyAt s at historyList) (blockAt s at jointsList)
@@ -44,9 +43,6 @@ finiteDiffAgrees s at =
     ∷ [])
 
 -- one float, slopes, and the record: joints, links, poses
-abbrev pub numberRoomAt : List ℕ → ℕ → ℕ → ℕ
-numberRoomAt s at k = numberRoomIn (length (listOf s at k))
-
 abbrev oneBlockAt : List ℕ → ℕ → ℕ
 oneBlockAt s at =
     oneBlockNumber (sheetAt s at) (goalsAt s at goalsList) (historyAt s at historyList) (blockAt s at jointsList) (roomAt s at objectiveOutputs) (roomAt s at (objectiveOutputs + 1))

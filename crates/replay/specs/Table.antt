@@ -3,7 +3,14 @@ use mathlib.Core.Bool.{cond}
 use Prim.Native.Nat.{ℕ, _+_}
 use lib.Dec.{eqb, ltb}
 
--- every byte call: the sheet
+-- the calls are 0 to the last one
+abbrev pub lastCall : ℕ
+lastCall = 41
+
+abbrev pub calls : ℕ
+calls = lastCall + 1
+
+-- every byte call: the sheet, sizing without its limits
 abbrev pub sizesList : ℕ
 sizesList = 0
 
@@ -47,6 +54,10 @@ armJoints = limitsList + 1
 abbrev pub armOutputs : ℕ
 armOutputs = armJoints + 1
 
+-- sizing
+abbrev pub planOutput : ℕ
+planOutput = floatsList + 1
+
 -- a leaf: the floats asked, the floats answered
 abbrev pub askedList : ℕ
 askedList = 0
@@ -58,7 +69,8 @@ answeredList = askedList + 1
 unfoldable pub outputsFrom : ℕ → ℕ
 outputsFrom c =
     cond (eqb c 0) (limitsList + 1) (cond (eqb c 1) (goalsList + 1) (cond (eqb c 2) armOutputs (cond (eqb c 3) armOutputs (cond (eqb c 4) updateOutput (cond (eqb c 5) objectiveOutputs
-    (cond (eqb c 6) armOutputs (cond (eqb c 7) armOutputs (cond (eqb c 8) objectiveOutputs (cond (eqb c 9) objectiveOutputs (cond (eqb c 10) objectiveOutputs answeredList))))))))))
+    (cond (eqb c 6) armOutputs (cond (eqb c 7) armOutputs (cond (eqb c 8) objectiveOutputs (cond (eqb c 9) objectiveOutputs (cond (eqb c 10) objectiveOutputs
+    (cond (eqb c 41) planOutput answeredList)))))))))))
 
 -- and how many it has
 unfoldable pub outputsOf : ℕ → ℕ

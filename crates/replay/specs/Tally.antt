@@ -3,7 +3,7 @@ use mathlib.Core.Bool.{Bool}
 use mathlib.Core.List.{List}
 use Prim.Native.Nat.{ℕ}
 use Rattle.stored_answers.specs.Records.{endBy, recordBy, casesBy, differBy, damageBy}
-use Rattle.replay.specs.Table.{listsOf}
+use Rattle.replay.specs.Table.{lastCall, listsOf}
 use Rattle.replay.specs.Cases.{recordAgrees}
 
 -- where the record at a place ends, and where record i begins
@@ -24,6 +24,5 @@ casesOf s c = casesBy listsOf s c
 abbrev pub differOf : List ℕ → ℕ → ℕ
 differOf s c = differBy listsOf (agreesAt s) s c
 
--- the calls are 0 to 40
 abbrev pub damageOf : List ℕ → ℕ
-damageOf s = damageBy listsOf 40 s
+damageOf s = damageBy listsOf lastCall s

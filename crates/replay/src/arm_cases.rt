@@ -8,8 +8,8 @@ ghost use mathlib.Core.Path.{_≡_};
 ghost use Prim.Native.Nat.{_+_, _≤_, _^_};
 ghost use Rattle.stored_answers.specs.Stored.{listOf};
 ghost use Rattle.stored_answers.specs.Agree.{filled};
-ghost use Rattle.replay.specs.Table.{armOutputs, updateOutput};
-ghost use Rattle.replay.specs.Arms.{loadAgrees, setGoalsAgrees, framesAgree, poseAgrees, manipulabilityAgrees, resetAgrees, updateAgrees};
+ghost use Rattle.replay.specs.Table.{armOutputs, updateOutput, planOutput};
+ghost use Rattle.replay.specs.Arms.{loadAgrees, setGoalsAgrees, framesAgree, poseAgrees, manipulabilityAgrees, resetAgrees, updateAgrees, sizingAgrees};
 
 pub fn load(s: &[u8], at: usize) -> bool
     requires { ⌜ at ≤ 2 ^ 40 ⌝ }
@@ -119,4 +119,18 @@ pub fn update(s: &[u8], at: usize, new_history: &mut [u8]) -> bool
         new_history,
     );
     agree::one(s, at, number, table::UPDATE_OUTPUT, new_history)
+}
+
+pub fn sizing(s: &[u8], at: usize, plan: &mut [u8]) -> bool
+    requires { ⌜ at ≤ 2 ^ 40 ⌝ }
+    requires { ⌜ now plan ≡ filled (listOf (now s) at planOutput) ⌝ }
+    ensures { λ r. ⌜ r ≡ sizingAgrees (now (s .entry)) at ⌝ }
+{
+    let number = arms::sizing(
+        list(s, at, table::SIZES),
+        list(s, at, table::CODES),
+        list(s, at, table::FLOATS),
+        plan,
+    );
+    agree::one(s, at, number, table::PLAN_OUTPUT, plan)
 }

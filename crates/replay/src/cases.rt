@@ -9,6 +9,7 @@ ghost use Prim.Native.Nat.{_≤_, _<_, _^_};
 ghost use lib.ListN.{length};
 ghost use Rattle.stored_answers.specs.Stored.{listOf};
 ghost use Rattle.stored_answers.specs.Agree.{fill};
+ghost use Rattle.replay.specs.Arms.{sizingAgrees};
 ghost use Rattle.replay.specs.Objectives.{oneBlockAgrees};
 ghost use Rattle.replay.specs.Cases.{oneAgrees, twoAgree, threeAgree, recordAgrees};
 
@@ -99,6 +100,15 @@ fn five_outputs(s: &[u8], at: usize) -> bool
     )
 }
 
+fn plan_output(s: &[u8], at: usize) -> bool
+    requires { ⌜ at ≤ 2 ^ 40 ⌝ }
+    ensures { λ r. ⌜ r ≡ sizingAgrees (now (s .entry)) at ⌝ }
+{
+    let n = room(s, at, table::PLAN_OUTPUT);
+    let mut a = buffer();
+    arm_cases::sizing(s, at, &mut a[..n])
+}
+
 pub fn agrees(s: &[u8], at: usize) -> bool
     requires { ⌜ at ≤ 2 ^ 40 ⌝ }
     ensures { λ r. ⌜ r ≡ recordAgrees (now (s .entry)) at ⌝ }
@@ -121,6 +131,9 @@ pub fn agrees(s: &[u8], at: usize) -> bool
     }
     if call == 10 {
         return five_outputs(s, at);
+    }
+    if call == 41 {
+        return plan_output(s, at);
     }
     leaf_cases::leaf(s, at)
 }

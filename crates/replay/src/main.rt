@@ -13,6 +13,9 @@ mod tally;
 
 use libc::STDOUT_FILENO;
 
+// The room for the list, in bytes.
+const ROOM: usize = 409600;
+
 fn replay(s: &[u8]) {
     let found = damage::damage(s);
     if found == 1 {
@@ -34,9 +37,9 @@ fn replay(s: &[u8]) {
 }
 
 fn main() {
-    let mut list = [0u8; 307200];
+    let mut list = [0u8; ROOM];
     let n = io::read_full(libc::STDIN_FILENO, &mut list);
-    if n == 307200 {
+    if n == ROOM {
         io::write_all(STDOUT_FILENO, b"the list is longer than the room for it\n");
         return;
     }

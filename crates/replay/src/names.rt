@@ -55,6 +55,7 @@ fn print_shape(call: usize) -> bool {
         37 => return io::write_all(STDOUT_FILENO, b"rotate"),
         38 => return io::write_all(STDOUT_FILENO, b"cross"),
         39 => return io::write_all(STDOUT_FILENO, b"scaled_axis"),
-        _ => return io::write_all(STDOUT_FILENO, b"gram"),
+        40 => return io::write_all(STDOUT_FILENO, b"gram"),
+        _ => return io::write_all(STDOUT_FILENO, b"sizing"),
     }
 }

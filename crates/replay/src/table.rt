@@ -3,7 +3,11 @@ ghost use mathlib.Core.Path.{_≡_};
 ghost use Prim.Native.Nat.{_≤_};
 ghost use Rattle.replay.specs.Table.{outputsFrom, outputsOf, listsOf};
 
-// every byte call: the sheet
+// the calls are 0 to the last one
+pub const LAST: usize = 41;
+
+pub const CALLS: usize = LAST + 1;
+// every byte call: the sheet, sizing without its limits
 pub const SIZES: usize = 0;
 
 pub const CODES: usize = SIZES + 1;
@@ -43,6 +47,8 @@ pub const ARM_JOINTS: usize = LIMITS + 1;
 pub const ARM_OUTPUTS: usize = ARM_JOINTS + 1;
 
 pub const ARM_SECOND: usize = ARM_OUTPUTS + 1;
+// sizing
+pub const PLAN_OUTPUT: usize = FLOATS + 1;
 // a leaf
 pub const ASKED: usize = 0;
 
@@ -64,6 +70,7 @@ pub fn outputs_from(call: usize) -> usize
         8 => return OBJECTIVE_OUTPUTS,
         9 => return OBJECTIVE_OUTPUTS,
         10 => return OBJECTIVE_OUTPUTS,
+        41 => return PLAN_OUTPUT,
         _ => return ANSWERED,
     }
 }

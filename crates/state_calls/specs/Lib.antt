@@ -8,3 +8,4 @@ pub mod StoredTask
 pub mod Objective
 pub mod OneBlock
 pub mod Numbers
+pub mod Planned

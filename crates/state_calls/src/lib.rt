@@ -1,4 +1,4 @@
-// The state, every refusal, and the calls on floats.
+// The state, every refusal, and the calls on the state.
 pub mod arms;
 pub mod load;
 pub mod objective;

@@ -63,14 +63,23 @@ returns-6 c =
     let n = c .before .before .before .before .before .before .before in
     rw (← n .number-at .ensures .0, ne-eqb _ 0 (c .before .before .before .before .before .before .if1 .left), ne-eqb _ 1 (c .before .before .before .before .before .if2 .left), le-ltb _ 6 (c .before .before .before .before .if3 .left), le-ltb _ 8 (c .before .before .before .if4 .left), le-ltb _ 10 (c .before .before .if5 .left), eq-eqb _ 10 (c .before .if6 .taken)) (c .five-outputs .ensures)
 
-leaf-requires : tie.Need-leaf-requires
-leaf-requires c κs = search needs
+plan-output-requires : tie.Need-plan-output-requires
+plan-output-requires c κs = search needs
 
 returns-7 : tie.Need-returns-7
 unfolding recordAgrees callAgrees
 returns-7 c =
-    let n = c .before .before .before .before .before .before .before in
-    rw (← n .number-at .ensures .0, ne-eqb _ 0 (c .before .before .before .before .before .before .if1 .left), ne-eqb _ 1 (c .before .before .before .before .before .if2 .left), le-ltb _ 6 (c .before .before .before .before .if3 .left), le-ltb _ 8 (c .before .before .before .if4 .left), le-ltb _ 10 (c .before .before .if5 .left), ne-eqb _ 10 (c .before .if6 .left)) (c .leaf .ensures)
+    let n = c .before .before .before .before .before .before .before .before in
+    rw (← n .number-at .ensures .0, ne-eqb _ 0 (c .before .before .before .before .before .before .before .if1 .left), ne-eqb _ 1 (c .before .before .before .before .before .before .if2 .left), le-ltb _ 6 (c .before .before .before .before .before .if3 .left), le-ltb _ 8 (c .before .before .before .before .if4 .left), le-ltb _ 10 (c .before .before .before .if5 .left), ne-eqb _ 10 (c .before .before .if6 .left), eq-eqb _ 41 (c .before .if7 .taken)) (c .plan-output .ensures)
+
+leaf-requires : tie.Need-leaf-requires
+leaf-requires c κs = search needs
+
+returns-8 : tie.Need-returns-8
+unfolding recordAgrees callAgrees
+returns-8 c =
+    let n = c .before .before .before .before .before .before .before .before in
+    rw (← n .number-at .ensures .0, ne-eqb _ 0 (c .before .before .before .before .before .before .before .if1 .left), ne-eqb _ 1 (c .before .before .before .before .before .before .if2 .left), le-ltb _ 6 (c .before .before .before .before .before .if3 .left), le-ltb _ 8 (c .before .before .before .before .if4 .left), le-ltb _ 10 (c .before .before .before .if5 .left), ne-eqb _ 10 (c .before .before .if6 .left), ne-eqb _ 41 (c .before .if7 .left)) (c .leaf .ensures)
 
 pub agrees-spec : {M : Type 1} → statement M
 agrees-spec =
@@ -89,5 +98,7 @@ agrees-spec =
     returns-5
     five-outputs-requires
     returns-6
+    plan-output-requires
+    returns-7
     leaf-requires
-    returns-7)
+    returns-8)

@@ -1,0 +1,72 @@
+-- What a plan promises of the record as bytes: two a joint or a link, eight a float of a pose.
+use mathlib.Core.Path.{_≡_, refl, sym, ap, _∙_}
+use mathlib.Core.Logic.{_⊎_, inl, inr, ⊎-elim}
+use mathlib.Core.List.{List}
+use Prim.Native.Nat.{ℕ, _*_, _≤_, _<_}
+use native.Mathlib.Omega.{arith}
+use lib.Ieee.{Float}
+use Rattle.refusals.specs.Lengths.{slopesLength, valueLength, recordPosesLength}
+use Rattle.refusals.specs.Lowest.{firstOf, first-zero, first-last, first-most}
+use Rattle.refusals.specs.Refusal.{chainsOf, linksOf, blockRefusal, historyRefusal, goalsRefusal, roomRefusal}
+use Rattle.refusals.specs.Passed.{load-most, block-most, history-most, goals-most, room-enough, room-behind}
+use Rattle.calls.specs.OneBlock.{recordRefusal}
+use Rattle.sizing.specs.Sizing.{planOf}
+use Rattle.sizing.specs.Planned.{RecordRoom, RecordShort, record-room, record-short}
+use Rattle.lent_bytes.specs.Lent.{roomIn, numberRoomIn, room-within, number-room-within, room-whole, number-room-whole}
+use Rattle.lent_bytes.specs.SheetLists.{SheetLists, same-three}
+use Rattle.arm_bytes.specs.ArmCalls.{loadNumber}
+use Rattle.arm_bytes.specs.Planned.{planIn}
+use Rattle.objective_bytes.specs.ObjectiveCalls.{taskNumber}
+use Rattle.one_block_bytes.specs.OneBlockCalls.{entriesIn, oneBlockNumber}
+
+-- a plan's entries are those that the call asks
+planned-entries : (s : SheetLists) → planIn s .entries ≡ entriesIn s
+unfolding planOf
+planned-entries s = refl
+
+module _ (s : SheetLists) (goals history x : List Float) where
+  -- the numbers before 9
+  task-most : taskNumber s goals history x ≤ 8
+  unfolding taskNumber
+  task-most =
+      first-most _ _ 8 (omega (arith, load-most (s .sizes) (s .codes) (s .floats) (s .limits)))
+      (first-most _ _ 8
+      (first-most _ _ 8 (omega (arith, block-most (s .codes) x)) (omega (arith, history-most (s .codes) history)))
+      (goals-most (chainsOf (s .sizes)) goals))
+
+  -- a record of rj joints, rl links and rp floats of poses, of the planned lengths or longer: none has a part in the number
+  pub one-block-bytes-planned : (value slopes rj rl rp : ℕ) → RecordRoom (planIn s) rj rl rp
+      → oneBlockNumber s goals history x value slopes (numberRoomIn (2 * rj)) (numberRoomIn (2 * rl)) (roomIn (8 * rp))
+      ≡ firstOf (taskNumber s goals history x) (firstOf (roomRefusal valueLength value) (roomRefusal (slopesLength (s .codes)) slopes))
+  unfolding oneBlockNumber
+  one-block-bytes-planned value slopes rj rl rp h =
+      ap (λ (n : ℕ). firstOf (taskNumber s goals history x) (firstOf (roomRefusal valueLength value) n))
+      (first-last _ _
+      (same-three (recordRefusal (entriesIn s)) (number-room-whole rj) (number-room-whole rl) (room-whole rp)
+      ∙ ap (λ (n : ℕ). recordRefusal n rj rl rp) (sym (planned-entries s))
+      ∙ record-room (planIn s) rj rl rp h))
+
+  -- so with room for the value and the slopes it is never 9
+  pub one-block-bytes-never-nine : (value slopes rj rl rp : ℕ) → valueLength ≤ value → slopesLength (s .codes) ≤ slopes → RecordRoom (planIn s) rj rl rp
+      → oneBlockNumber s goals history x value slopes (numberRoomIn (2 * rj)) (numberRoomIn (2 * rl)) (roomIn (8 * rp)) ≡ 9 → ⊥
+  one-block-bytes-never-nine value slopes rj rl rp v l h nine =
+      let taken = one-block-bytes-planned value slopes rj rl rp h
+      ∙ first-last _ _ (first-zero _ _ (room-enough valueLength value v) ∙ room-enough (slopesLength (s .codes)) slopes l) in
+      omega (arith, nine, taken, task-most)
+
+  -- with fewer bytes in any of the three it is 9, where no number below 9 applies
+  pub one-block-bytes-short : (value slopes j l p : ℕ) → taskNumber s goals history x ≡ 0
+      → (j < 2 * planIn s .entries) ⊎ ((l < 2 * planIn s .entries) ⊎ (p < 8 * recordPosesLength (planIn s .entries)))
+      → oneBlockNumber s goals history x value slopes (numberRoomIn j) (numberRoomIn l) (roomIn p) ≡ 9
+  unfolding oneBlockNumber
+  one-block-bytes-short value slopes j l p q h =
+      let n = planIn s .entries in
+      let short : RecordShort (planIn s) (numberRoomIn j) (numberRoomIn l) (roomIn p) =
+      ⊎-elim (λ (a : j < 2 * n). inl (omega (arith, number-room-within j)))
+      (λ (more : (l < 2 * n) ⊎ (p < 8 * recordPosesLength n)).
+      inr (⊎-elim (λ (b : l < 2 * n). inl (omega (arith, number-room-within l))) (λ (c : p < 8 * recordPosesLength n). inr (omega (arith, room-within p))) more))
+      h in
+      first-zero _ _ q
+      ∙ room-behind _ value _
+      (room-behind _ slopes _
+      (ap (λ (k : ℕ). recordRefusal k (numberRoomIn j) (numberRoomIn l) (roomIn p)) (sym (planned-entries s)) ∙ record-short (planIn s) (numberRoomIn j) (numberRoomIn l) (roomIn p) short))
