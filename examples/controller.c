@@ -1,11 +1,13 @@
-/* The rig's loop on the proved library: load the arm, set the goal, reset, then round after round a gradient, a small step down and an update.
+/* The rig's loop on the proved library: reserve the lists, load the arm, set the goal, reset, then round after round a gradient, a small step
+ * down and an update.
  *
  *   cc -std=c99 -Iinclude examples/controller.c target/staticlib/libexports.a -o controller
  *
- * All lists are static and of fixed length; nothing is allocated. They are lent as they lie in memory, so this program is for a little-endian
- * processor with IEEE 754 doubles, and says so if it is on another.
+ * All lists are static; nothing is allocated. Those whose lengths the library plans are carved out of one pool, at exactly those lengths. Lists
+ * are lent as they lie in memory, so this program is for a little-endian processor with IEEE 754 doubles, and says so if it is on another.
  *
- * -DGUARDED puts guard bytes around every list and looks at them, and at the lists that are only read, after every call (tools/controller_test). */
+ * -DPOOL_BYTES=N gives the pool another size. -DGUARDED puts guard bytes around every list and looks at them, and at the lists that are only
+ * read, after every call (tools/controller_test). */
 #include "relaxed_ik.h"
 
 #include <stdio.h>
@@ -15,14 +17,13 @@ enum {
     CHAINS = 1,
     LINKS = 9,
     JOINTS = 7,
-    /* All links, then for each joint those from its own to the end. The joints are links 1 to 4 and 6 to 8. */
-    RECORD = LINKS + 8 + 7 + 6 + 5 + 3 + 2 + 1,
     ROUNDS = 200
 };
 
 #define MOST_MOVE 0.02 /* of a joint in one round */
 
-/* Every list: type, name, length. The first are only read by the calls, the others written; the history is both. */
+/* Every list: type, name, length. The first are only read by the calls, the others written; the history is both. The last are as long as the
+ * plan says. */
 #define READ_LISTS(LIST)                                    \
     LIST(uint16_t, sizes, 1 + CHAINS)                       \
     LIST(uint16_t, codes, LINKS)                            \
@@ -36,9 +37,17 @@ enum {
     LIST(double, ends, CHAINS * RELAXED_IK_POSE_FLOATS)     \
     LIST(double, value, 1)                                  \
     LIST(double, slopes, JOINTS)                            \
-    LIST(uint16_t, record_joints, RECORD)                   \
-    LIST(uint16_t, record_links, RECORD)                    \
-    LIST(double, record_poses, RECORD * RELAXED_IK_POSE_FLOATS)
+    LIST(uint16_t, plan, RELAXED_IK_PLAN_NUMBERS)
+#define PLANNED_LISTS(LIST)                                 \
+    LIST(uint16_t, record_joints, ENTRIES)                  \
+    LIST(uint16_t, record_links, ENTRIES)                   \
+    LIST(double, record_poses, ENTRIES * RELAXED_IK_POSE_FLOATS)
+#define ENTRIES ((size_t)plan.at[RELAXED_IK_PLAN_RECORD])
+
+/* A rig has no heap: the planned lists come out of this many bytes, which the longest record of any arm needs. */
+#ifndef POOL_BYTES
+#define POOL_BYTES (RELAXED_IK_MOST_RECORD * (2 * sizeof(uint16_t) + RELAXED_IK_POSE_FLOATS * sizeof(double)))
+#endif
 
 #ifdef GUARDED
 #define GUARD 64
@@ -52,6 +61,7 @@ enum {
 #define DECLARE_KEPT(type, name, count) static type kept_##name[count];
 READ_LISTS(DECLARE_KEPT)
 #else
+#define GUARD 0
 #define DECLARE(type, name, count) \
     static struct {                \
         type at[count];            \
@@ -60,9 +70,22 @@ READ_LISTS(DECLARE_KEPT)
 READ_LISTS(DECLARE)
 WRITTEN_LISTS(DECLARE)
 
+/* A list in the pool. Lists need no alignment, so they lie there byte after byte, and what the program reads of one it copies out. */
+struct part {
+    uint8_t *before, *at, *after;
+    size_t length;
+};
+#define DECLARE_PART(type, name, count) static struct part name;
+PLANNED_LISTS(DECLARE_PART)
+/* The guards have room of their own, so that they change nothing of what fits. */
+#define BOTH_GUARDS(type, name, count) + 2 * GUARD
+static uint8_t pool[POOL_BYTES PLANNED_LISTS(BOTH_GUARDS)];
+static int reserved;
+
 /* A list as a call takes it. */
 #define READ(name) (const uint8_t *)name.at, sizeof name.at
 #define WRITE(name) (uint8_t *)name.at, sizeof name.at
+#define WRITE_PART(name) name.at, name.length
 #define SHEET READ(sizes), READ(codes), READ(floats), READ(limits)
 
 static unsigned long calls;
@@ -107,6 +130,9 @@ static uint32_t after_call(uint32_t answer) {
     READ_LISTS(LOOK)
     READ_LISTS(COMPARE)
     WRITTEN_LISTS(LOOK)
+    if (reserved) {
+        PLANNED_LISTS(LOOK)
+    }
 #endif
     return answer;
 }
@@ -178,6 +204,38 @@ static int little_endian(void) {
     return *(const uint8_t *)&one == 1 && sizeof two == 8 && memcmp(&two, two_bytes, 8) == 0;
 }
 
+#define ADD(type, name, count) needed += sizeof(type) * (count);
+#define CARVE(type, name, count)                  \
+    name.before = next;                           \
+    name.at = name.before + GUARD;                \
+    name.length = sizeof(type) * (count);         \
+    name.after = name.at + name.length;           \
+    next = name.after + GUARD;
+
+/* Once, at the start: asks how long the lists have to be, and carves them out of the pool. */
+static int reserve(void) {
+    uint8_t *next = pool;
+    size_t needed = 0;
+    if (!taken("sizing", ASK(relaxed_ik_sizing(READ(sizes), READ(codes), READ(floats), WRITE(plan))))) return 0;
+    PLANNED_LISTS(ADD)
+    if (needed > POOL_BYTES) {
+        printf("the pool is too small: the lists need %lu bytes, it has %lu\n", (unsigned long)needed, (unsigned long)POOL_BYTES);
+        return 0;
+    }
+    PLANNED_LISTS(CARVE)
+#ifdef GUARDED
+    PLANNED_LISTS(SET_GUARDS)
+#endif
+    reserved = 1;
+    printf("reserved: %lu bytes for a record of %lu entries\n", (unsigned long)needed, (unsigned long)ENTRIES);
+    return 1;
+}
+
+/* Copies an entry, which has this size, out of the pool. */
+static void copy_out(void *to, struct part list, size_t entry, size_t size) {
+    memcpy(to, list.at + entry * size, size);
+}
+
 static int pose(void) {
     return taken("pose", ASK(relaxed_ik_pose(SHEET, READ(joints), WRITE(ends))));
 }
@@ -199,15 +257,16 @@ static double within(double v, double low, double high) {
 }
 
 static int rounds(void) {
-    double rate = 0.001, last = 0.0;
+    double rate = 0.001, last = 0.0, e[RELAXED_IK_POSE_FLOATS];
+    uint16_t link, joint;
     int round, i;
     for (round = 0; round < ROUNDS; round++) {
         if (!taken("gradient", ASK(relaxed_ik_gradient_one_block(SHEET, READ(goals), READ(history), READ(joints), WRITE(value), WRITE(slopes),
-                                   WRITE(record_joints), WRITE(record_links), WRITE(record_poses)))))
+                                   WRITE_PART(record_joints), WRITE_PART(record_links), WRITE_PART(record_poses)))))
             return 0;
         if (round % 25 == 0 || round == ROUNDS - 1) {
             /* The first walk's last pose is the end pose: no further call is needed for it. */
-            const double *e = &record_poses.at[RELAXED_IK_POSE_FLOATS * (LINKS - 1)];
+            copy_out(e, record_poses, LINKS - 1, sizeof e);
             printf("round %3d: objective %10.5f, end at %.4f %.4f %.4f\n", round, value.at[0], e[0], e[1], e[2]);
         }
         if (round > 0 && value.at[0] > last) rate *= 0.7;
@@ -218,8 +277,9 @@ static int rounds(void) {
         }
         if (!update()) return 0;
     }
-    printf("record: %d links walked, the last one link %u with joint %u raised\n", RECORD, (unsigned)record_links.at[RECORD - 1],
-        (unsigned)record_joints.at[RECORD - 1]);
+    copy_out(&link, record_links, ENTRIES - 1, sizeof link);
+    copy_out(&joint, record_joints, ENTRIES - 1, sizeof joint);
+    printf("record: %lu links walked, the last one link %u with joint %u raised\n", (unsigned long)ENTRIES, (unsigned)link, (unsigned)joint);
     return 1;
 }
 
@@ -231,6 +291,7 @@ int main(void) {
         return 2;
     }
     fill();
+    if (!reserve()) return 1;
     if (!taken("load", ASK(relaxed_ik_load(SHEET)))) return 1;
     printf("loaded: %d chain, %d links, %d joints\n", CHAINS, LINKS, JOINTS);
 

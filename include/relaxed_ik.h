@@ -11,6 +11,7 @@
  *   goals      13 for each chain: position, rotation w first, six tolerances (three of position, three of rotation)
  *   history    four blocks of joints in one list: the current one, then the three before it
  *   joints     a float for each joint, chain after chain
+ *   plan       four u16s, by which lists are reserved: see relaxed_ik_sizing
  *
  * Lists named const are only read. Of the others the front is written; a longer list keeps its tail, and its length must be a whole number
  * of elements all the same.
@@ -55,6 +56,13 @@ extern "C" {
 #define RELAXED_IK_POSITION_FLOATS 3
 #define RELAXED_IK_ROTATION_FLOATS 4
 #define RELAXED_IK_HISTORY_BLOCKS 4
+#define RELAXED_IK_PLAN_NUMBERS 4    /* u16s of a plan */
+
+/* Where each number of a plan stands. */
+#define RELAXED_IK_PLAN_POSITIONS 0  /* floats of the positions of relaxed_ik_frames */
+#define RELAXED_IK_PLAN_ROTATIONS 1  /* floats of its rotations */
+#define RELAXED_IK_PLAN_OBJECTIVES 2 /* objectives that are summed */
+#define RELAXED_IK_PLAN_RECORD 3     /* entries of the record of relaxed_ik_gradient_one_block */
 
 /* The most that is taken. */
 #define RELAXED_IK_MOST_CHAINS 4
@@ -73,6 +81,17 @@ uint32_t relaxed_ik_load(
     const uint8_t *codes, size_t codes_length,
     const uint8_t *floats, size_t floats_length,
     const uint8_t *limits, size_t limits_length);
+
+/* How many floats the frame lists have, how many objectives there are and how many entries the record has, without a walk. Lent: sizes,
+ * codes, floats; no limits. Comes back: the plan, four u16s: the floats of the positions and of the rotations of relaxed_ik_frames, the
+ * objectives, and the entries of the record of relaxed_ik_gradient_one_block, a u16 an entry in its joints and in its links and 7 floats in
+ * its poses. A list of the planned length is never refused as too short; with one element fewer it always is, where no lower number holds.
+ * Answers 0 to 4, 6, 9. */
+uint32_t relaxed_ik_sizing(
+    const uint8_t *sizes, size_t sizes_length,
+    const uint8_t *codes, size_t codes_length,
+    const uint8_t *floats, size_t floats_length,
+    uint8_t *plan, size_t plan_length);
 
 /* Looks at goals. Lent: the sheet, goals. Comes back: the number alone. Answers 0 to 6, 8. */
 uint32_t relaxed_ik_set_goals(

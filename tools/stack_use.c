@@ -10,7 +10,7 @@
 
 static volatile unsigned char *lowest;
 
-static uint16_t sizes[2] = {1, JOINTS}, codes[JOINTS], record_joints[400], record_links[400];
+static uint16_t sizes[2] = {1, JOINTS}, codes[JOINTS], plan[4], record_joints[400], record_links[400];
 static double floats[7 * JOINTS], limits[2 * JOINTS], goals[13], history[4 * JOINTS], joints[JOINTS];
 static double value[1], ends[7], blocks[4 * JOINTS], slopes[JOINTS], scratch[JOINTS], positions[3 * (JOINTS + 1)], rotations[4 * (JOINTS + 2)], record_poses[2800];
 
@@ -63,6 +63,7 @@ int main(void)
     relaxed_ik_load(SHEET);
     relaxed_ik_gradient(STATE, OUT(scratch), OUT(value), OUT(slopes));
     MEASURE("load", relaxed_ik_load(SHEET));
+    MEASURE("sizing", relaxed_ik_sizing(LIST(sizes), LIST(codes), LIST(floats), OUT(plan)));
     MEASURE("set_goals", relaxed_ik_set_goals(SHEET, LIST(goals)));
     MEASURE("frames", relaxed_ik_frames(SHEET, LIST(joints), OUT(positions), OUT(rotations)));
     MEASURE("pose", relaxed_ik_pose(SHEET, LIST(joints), OUT(ends)));

@@ -5,6 +5,7 @@ use reference::groove::objective_master::ObjectiveMaster;
 use reference::record::record;
 use reference::refusals::{self, f64s, u16s, RecordRoom, Room};
 use reference::sheet;
+use reference::sizing::{plan, PLAN};
 
 /// By their numbers in the stored list.
 #[derive(Clone, Copy, Debug, PartialEq)]
@@ -20,8 +21,11 @@ pub enum Call {
     Gradient,
     GradientFiniteDiff,
     GradientOneBlock,
+    /// The leaves' numbers lie before it.
+    Sizing = 41,
 }
 
+/// Those whose records come before the leaves'.
 pub const CALLS: [Call; 11] = [
     Call::Load,
     Call::SetGoals,
@@ -54,6 +58,7 @@ impl Call {
     pub fn read(self) -> &'static [List] {
         match self {
             Call::Load => &[Sizes, Codes, Floats, Limits],
+            Call::Sizing => &[Sizes, Codes, Floats],
             Call::SetGoals => &[Sizes, Codes, Floats, Limits, Goals],
             Call::Update => &[Sizes, Codes, Floats, Limits, History, Joints],
             Call::Objective
@@ -80,6 +85,7 @@ impl Call {
             Call::Frames => vec![3 * (links + chains), 4 * (links + 2 * chains)],
             Call::Reset => vec![4 * joints, 7 * chains],
             Call::Gradient | Call::GradientFiniteDiff => vec![joints, 1, joints],
+            Call::Sizing => return vec![(PLAN, 2)],
             Call::GradientOneBlock => {
                 return vec![
                     (1, 8),
@@ -166,6 +172,9 @@ fn answer(call: Call, lent: &Lent, rooms: &[usize]) -> (u32, Vec<Vec<u8>>) {
     if number != refusals::ACCEPTED || rooms.is_empty() {
         return (number, Vec::new());
     }
+    if call == Call::Sizing {
+        return (number, vec![u16_bytes(&plan(&sizes, &codes, &floats))]);
+    }
     let robot = sheet::robot(&sizes, &codes, &floats, &limits);
     (number, written(call, robot, &goals, &history, &joints))
 }
@@ -180,6 +189,7 @@ fn refusal(
     let room = |at: usize| Room::of_bytes(rooms[at]);
     match call {
         Call::Load => refusals::load(sheet),
+        Call::Sizing => refusals::sizing(sheet, Room::of_u16_bytes(rooms[0])),
         Call::SetGoals => refusals::set_goals(sheet, given.goals),
         Call::Pose => refusals::pose(sheet, joints, room(0)),
         Call::Manipulability => refusals::manipulability(sheet, joints, room(0)),

@@ -35,7 +35,7 @@ pub const LARGE: [Shape; 2] = [
 
 /// A sheet of this shape with drawn numbers; everything near everything else,
 /// where the losses are not all tail.
-pub fn lent(shape: Shape, draw: &mut Draw) -> Lent {
+pub fn lent(shape: &[&[u16]], draw: &mut Draw) -> Lent {
     let codes = shape.concat();
     let again = |chain: &&[u16]| -> usize {
         let joints = chain.iter().enumerate().filter(|(_, &code)| code != 0);
@@ -129,7 +129,7 @@ fn tolerance(draw: &mut Draw) -> f64 {
 }
 
 /// Outputs just as long as they need be.
-fn exact(call: Call, lent: &Lent) -> Vec<usize> {
+pub fn exact(call: Call, lent: &Lent) -> Vec<usize> {
     let needs = call.needs(&lent.counts).into_iter();
     needs.map(|(count, unit)| count * unit).collect()
 }
@@ -167,16 +167,16 @@ fn accepted(call: Call, draw: &mut Draw, records: &mut Vec<Record>) {
 }
 
 /// Puts a number in the place of one that a list has.
-fn put(lent: &mut Lent, list: List, at: usize, value: f64) {
+pub fn put(lent: &mut Lent, list: List, at: usize, value: f64) {
     lent.bytes[list as usize][8 * at..8 * at + 8].copy_from_slice(&value.to_le_bytes());
 }
 
-fn put_u16(lent: &mut Lent, list: List, at: usize, value: u16) {
+pub fn put_u16(lent: &mut Lent, list: List, at: usize, value: u16) {
     lent.bytes[list as usize][2 * at..2 * at + 2].copy_from_slice(&value.to_le_bytes());
 }
 
 /// Cuts bytes off a list's end.
-fn cut(lent: &mut Lent, list: List, bytes: usize) {
+pub fn cut(lent: &mut Lent, list: List, bytes: usize) {
     let length = lent.get(list).len() - bytes;
     lent.bytes[list as usize].truncate(length);
 }
@@ -220,7 +220,7 @@ pub const FAULTS: [Fault; 30] = [
 ];
 
 /// Whether a call reads the list of a fault.
-fn meets(call: Call, fault: &Fault) -> bool {
+pub fn meets(call: Call, fault: &Fault) -> bool {
     call.read().contains(&fault.1)
 }
 
@@ -251,7 +251,7 @@ fn refused_twice(call: Call, draw: &mut Draw, records: &mut Vec<Record>) {
 
 /// Refused for the shape: more joints than 16, and a later chain with more
 /// joints than the first has links.
-fn refused_shapes(call: Call, draw: &mut Draw, records: &mut Vec<Record>) {
+pub fn refused_shapes(call: Call, draw: &mut Draw, records: &mut Vec<Record>) {
     const NINE: &[u16] = &[13; 9];
     let shapes: [Shape; 2] = [&[NINE, &[12; 8]], &[&[13, 12], &[11, 12, 13]]];
     for shape in shapes {

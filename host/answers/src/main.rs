@@ -10,6 +10,7 @@ mod damage;
 mod leaves;
 mod record;
 mod sequences;
+mod sizing;
 
 use draw::Draw;
 use record::Record;
@@ -46,6 +47,8 @@ fn records(kind: Kind) -> Vec<Record> {
         Kind::Calls => {
             let mut records = cases::all(&mut draw);
             records.extend(leaves::all(&mut draw));
+            // Behind all others, which keep their bytes.
+            records.extend(sizing::all(&mut draw));
             records
         }
         Kind::Sequences => sequences::all(&mut draw),

@@ -8,6 +8,7 @@ use crate::{Draw, Rows};
 use reference::groove::vars::RelaxedIKVars;
 use reference::refusals::{self, f64s, u16s};
 use reference::sheet;
+use reference::sizing::{plan, PLAN};
 use reference::spacetime::robot::Robot;
 use relaxed_ik::bytes::{self, put_floats, put_u16s, Sheet};
 use std::cell::RefCell;
@@ -147,6 +148,19 @@ impl Decoded {
             limits: f64s(&chains.limits, &mut self.limits),
         }
     }
+
+    /// The plan of a sheet without limits.
+    fn plan(&mut self, chains: &Chains) -> [u16; PLAN] {
+        let sheet = refusals::Sheet {
+            sizes: u16s(&chains.sizes, &mut self.sizes),
+            codes: u16s(&chains.codes, &mut self.codes),
+            floats: f64s(&chains.floats, &mut self.floats),
+            limits: refusals::List::of(&[]),
+        };
+        let answer = refusals::sizing(&sheet, refusals::Room::of(PLAN));
+        assert_eq!(answer, refusals::ACCEPTED);
+        plan(&self.sizes, &self.codes, &self.floats)
+    }
 }
 
 pub fn rows(rows: &mut Rows, draw: &mut Draw, label: &str, chains: &Chains) {
@@ -177,6 +191,7 @@ fn checks(rows: &mut Rows, draw: &mut Draw, label: &str, chains: &Chains) {
         |(chains, _)| f64::from(bytes::load(chains.sheet())),
         |(chains, _)| f64::from(refusals::load(&decoded.borrow_mut().sheet(chains))),
     );
+    sizing(rows, label, &sheets);
     let numbers = RefCell::new(Vec::new());
     rows.row(
         &format!("set_goals, {label}"),
@@ -186,6 +201,26 @@ fn checks(rows: &mut Rows, draw: &mut Draw, label: &str, chains: &Chains) {
             let (decoded, numbers) = (&mut *decoded.borrow_mut(), &mut *numbers.borrow_mut());
             let goals = f64s(&block.goals_bytes, numbers);
             f64::from(refusals::set_goals(&decoded.sheet(chains), goals))
+        },
+    );
+}
+
+/// The other side makes what it counts: frames, objectives, a record.
+fn sizing(rows: &mut Rows, label: &str, sheets: &[(Chains, Block)]) {
+    let (output, decoded) = (RefCell::new([0; 2 * PLAN]), RefCell::default());
+    rows.row(
+        &format!("sizing, {label}"),
+        sheets,
+        |(chains, _)| {
+            let (output, sheet) = (&mut *output.borrow_mut(), chains.sheet());
+            let answer = bytes::sizing(sheet.sizes, sheet.codes, sheet.floats, output);
+            assert_eq!(answer, refusals::ACCEPTED);
+            let [.., low, high] = *output;
+            f64::from(u16::from_le_bytes([low, high]))
+        },
+        |(chains, _)| {
+            let decoded: &mut Decoded = &mut decoded.borrow_mut();
+            f64::from(decoded.plan(chains)[PLAN - 1])
         },
     );
 }

@@ -195,7 +195,10 @@ fn main() -> ExitCode {
     all(&mut rows);
     match rows.wish {
         Wish::Markdown => print!("{}", report::markdown(&rows.timed)),
-        Wish::Time(_) => print!("{}", report::growth(&rows.timed)),
+        Wish::Time(_) => {
+            print!("{}", report::growth(&rows.timed));
+            print!("{}", report::beside_load(&rows.timed));
+        }
         _ => {}
     }
     if rows.found {

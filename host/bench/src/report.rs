@@ -38,6 +38,7 @@ pub fn markdown(timed: &[Timed]) -> String {
     let leaves = timed.iter().filter(|row| parts(&row.name).1.is_none());
     table(&mut text, "functions on numbers", leaves);
     text.push_str(&growth(timed));
+    text.push_str(&beside_load(timed));
     text.push_str(&steadiness(timed));
     text
 }
@@ -127,6 +128,27 @@ pub fn growth(timed: &[Timed]) -> String {
     )
 }
 
+/// What sizing takes beside a load of the same sheets, for each arm on which both
+/// were timed.
+pub fn beside_load(timed: &[Timed]) -> String {
+    let mut text = String::new();
+    for arm in ARMS {
+        let of = |call: &str| {
+            let name = format!("{call}, {arm}");
+            timed.iter().find(|row| row.name == name)
+        };
+        if let (Some(load), Some(sizing)) = (of("load"), of("sizing")) {
+            let (load, sizing) = (load.proved, sizing.proved);
+            let ratio = sizing / load;
+            let _ = writeln!(text, "| {arm} | {load:.1} | {sizing:.1} | {ratio:.2} |");
+        }
+    }
+    if text.is_empty() {
+        return text;
+    }
+    format!("\n| sizing beside load | load | sizing | sizing / load |\n|---|---|---|---|\n{text}")
+}
+
 #[cfg(test)]
 mod tests {
     use super::*;
@@ -171,5 +193,18 @@ mod tests {
         rows[0].quartiles = [0.49, 0.51];
         assert!(markdown(&rows).contains("In 1 of 6 rows"));
         assert!(growth(&rows[..2]).is_empty());
+    }
+
+    #[test]
+    fn sizing_is_shown_beside_load() {
+        let mut rows = vec![
+            row("load, 7 joints", 10.0, 4.0),
+            row("load, 2 joints", 9.0, 4.0),
+        ];
+        assert!(beside_load(&rows).is_empty());
+        rows.push(row("sizing, 7 joints", 12.0, 900.0));
+        let text = beside_load(&rows);
+        assert!(text.ends_with("|---|\n| 7 joints | 10.0 | 12.0 | 1.20 |\n"));
+        assert!(markdown(&rows).contains(&text));
     }
 }

@@ -5,13 +5,20 @@ use crate::calls::{exact, fitted, Call};
 use crate::run::Run;
 use crate::sheets::{damages, Damage, Fit, List, Lists, Shape, CODES};
 use crate::source::{Source, READ, WRITTEN};
-use crate::target::{Target, ARMS};
+use crate::target::{Target, ARMS, SIZING};
 use crate::trial::Trial;
 
 pub fn targets() -> Vec<Target> {
     let arms = |name, about, kinds, run| Target::new(name, about, ARMS, kinds, run);
     vec![
         arms("load", "loading arms", READ, |run| all(run, Call::Load)),
+        Target::new(
+            "sizing",
+            "the lengths of a sheet's lists",
+            SIZING,
+            WRITTEN,
+            |run| all(run, Call::Sizing),
+        ),
         arms("set_goals", "setting goals", READ, |run| {
             all(run, Call::SetGoals)
         }),

@@ -3,6 +3,7 @@
 
 use crate::draw::Draw;
 use crate::sheets::{Fit, List, Lists};
+use reference::sizing::PLAN;
 use relaxed_ik::bytes;
 
 // The reference answers every call; the feature says which ones the library
@@ -11,6 +12,7 @@ use relaxed_ik::bytes;
 #[derive(Clone, Copy, Debug, PartialEq)]
 pub enum Call {
     Load,
+    Sizing,
     SetGoals,
     Frames,
     Pose,
@@ -24,8 +26,9 @@ pub enum Call {
 }
 
 impl Call {
-    pub const ALL: [Self; 11] = [
+    pub const ALL: [Self; 12] = [
         Self::Load,
+        Self::Sizing,
         Self::SetGoals,
         Self::Frames,
         Self::Pose,
@@ -41,6 +44,7 @@ impl Call {
     pub fn name(self) -> &'static str {
         match self {
             Self::Load => "load",
+            Self::Sizing => "sizing",
             Self::SetGoals => "set_goals",
             Self::Frames => "frames",
             Self::Pose => "pose",
@@ -54,11 +58,13 @@ impl Call {
         }
     }
 
-    /// The lists it reads, the sheet's four first.
+    /// The lists it reads, the sheet's four first, but for sizing, which has no
+    /// limits.
     pub fn read(self) -> &'static [List] {
         use List::{Codes, Floats, Goals, History, Joints, Limits, Sizes};
         match self {
             Call::Load => &[Sizes, Codes, Floats, Limits],
+            Call::Sizing => &[Sizes, Codes, Floats],
             Call::SetGoals => &[Sizes, Codes, Floats, Limits, Goals],
             Call::Update => &[Sizes, Codes, Floats, Limits, History, Joints],
             _ if self.aims() => &[Sizes, Codes, Floats, Limits, Goals, History, Joints],
@@ -73,7 +79,7 @@ impl Call {
 
     /// Those after the sheet's.
     pub fn own(self) -> &'static [List] {
-        &self.read()[4..]
+        self.read().get(4..).unwrap_or_default()
     }
 
     /// Whether it looks how far joints are from goals and history.
@@ -98,6 +104,7 @@ impl Call {
         let walked = lists.walked;
         match self {
             Call::Load | Call::SetGoals => vec![],
+            Call::Sizing => vec![PLAN],
             Call::Frames => vec![3 * (links + chains), 4 * (links + 2 * chains)],
             Call::Pose => vec![7 * chains],
             Call::Manipulability => vec![1],
@@ -109,16 +116,20 @@ impl Call {
         }
     }
 
-    /// Bytes of an output's numbers: the record's joints and links are u16s.
+    /// Bytes of an output's numbers: a plan and the record's joints and links are
+    /// u16s.
     pub fn unit(self, output: usize) -> usize {
         match (self, output) {
-            (Call::GradientOneBlock, 2 | 3) => 2,
+            (Call::Sizing, _) | (Call::GradientOneBlock, 2 | 3) => 2,
             _ => 8,
         }
     }
 
     /// The proved library's answer.
     pub fn ask(self, read: &[&[u8]], write: &mut [&mut [u8]]) -> u32 {
+        if let (Call::Sizing, [sizes, codes, floats], [plan]) = (self, read, &mut *write) {
+            return bytes::sizing(sizes, codes, floats, plan);
+        }
         let [sizes, codes, floats, limits, own @ ..] = read else {
             panic!("a sheet has four lists");
         };

@@ -6,6 +6,7 @@ use reference::groove::vars::RelaxedIKVars;
 use reference::record::record;
 use reference::refusals::{self, f64s, u16s, Given, List, RecordRoom, Room, Sheet};
 use reference::sheet;
+use reference::sizing;
 use relaxed_ik::bytes::{put_floats, put_u16s};
 
 /// What a call writes to one of its outputs.
@@ -43,6 +44,9 @@ impl Judge {
         if number != refusals::ACCEPTED || rooms.is_empty() {
             return (number, Vec::new());
         }
+        if call == Call::Sizing {
+            return (number, vec![U16s(lent.plan())]);
+        }
         let made = self.kept.made(read, &lent.sheet);
         (
             number,
@@ -69,19 +73,19 @@ struct Lent<'a> {
 
 impl Decoded {
     fn lend(&mut self, read: &[&[u8]]) -> Lent<'_> {
-        let own = |at: usize| read.get(at).copied().unwrap_or_default();
+        let list = |at: usize| read.get(at).copied().unwrap_or_default();
         let [first, second, third] = &mut self.own;
         Lent {
             sheet: Sheet {
-                sizes: u16s(read[0], &mut self.sizes),
-                codes: u16s(read[1], &mut self.codes),
-                floats: f64s(read[2], &mut self.floats),
-                limits: f64s(read[3], &mut self.limits),
+                sizes: u16s(list(0), &mut self.sizes),
+                codes: u16s(list(1), &mut self.codes),
+                floats: f64s(list(2), &mut self.floats),
+                limits: f64s(list(3), &mut self.limits),
             },
             own: [
-                f64s(own(4), first),
-                f64s(own(5), second),
-                f64s(own(6), third),
+                f64s(list(4), first),
+                f64s(list(5), second),
+                f64s(list(6), third),
             ],
         }
     }
@@ -102,6 +106,7 @@ impl Lent<'_> {
         };
         match call {
             Call::Load => refusals::load(sheet),
+            Call::Sizing => refusals::sizing(sheet, room(0)),
             Call::SetGoals => refusals::set_goals(sheet, first),
             Call::Frames => refusals::frames(sheet, first, room(0), room(1)),
             Call::Pose => refusals::pose(sheet, first, room(0)),
@@ -121,6 +126,18 @@ impl Lent<'_> {
                 refusals::gradient_one_block(&given, third, room(0), room(1), record)
             }
         }
+    }
+
+    /// What sizing writes. The arms kept have the limits of some sheet, so it has
+    /// its own made.
+    fn plan(&self) -> Vec<u16> {
+        let Sheet {
+            sizes,
+            codes,
+            floats,
+            ..
+        } = self.sheet;
+        sizing::plan(sizes.numbers, codes.numbers, floats.numbers).to_vec()
     }
 }
 

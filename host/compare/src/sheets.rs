@@ -422,7 +422,9 @@ pub fn damages(read: &[List]) -> Vec<(Kind, Damage)> {
     all.extend(SIDES.map(|(kind, edge)| (kind, Damage::Offset(edge))));
     all.extend([f64::NAN, f64::INFINITY].map(|v| (Kind::Nan, Damage::OffsetPart(v))));
     all.extend([1e-4, 1.1].map(|v| (Kind::Outside, Damage::OffsetPart(v))));
-    all.extend(pair_damages());
+    if read.contains(&Limits) {
+        all.extend(pair_damages());
+    }
     for list in [Joints, History] {
         if read.contains(&list) {
             all.extend(values(8.0).map(|(kind, v)| (kind, Damage::Value(list, v))));

@@ -85,12 +85,17 @@ impl Source {
         (&self.lists, rooms)
     }
 
-    /// A sheet, and how many cases it serves for.
+    /// A sheet, and how many cases it serves for. Sizing looks at nothing else, so
+    /// each of its cases has a sheet of its own.
     fn sheet(&self, draw: &mut Draw) -> (Lists, usize) {
-        match (self.kind, draw.word() % 8) {
+        let (lists, cases) = match (self.kind, draw.word() % 8) {
             (Kind::Shape, _) | (Kind::Several, 0) => (Lists::of(&refused_shape(draw), draw), 4),
             (Kind::Signs, _) | (Kind::Several, 1) => (Lists::still(&shape(draw), draw), 8),
             _ => (Lists::of(&shape(draw), draw), 16),
+        };
+        match self.call {
+            Call::Sizing => (lists, 1),
+            _ => (lists, cases),
         }
     }
 
@@ -124,15 +129,15 @@ mod tests {
     use crate::sheets::List;
     use std::collections::BTreeMap;
 
-    fn floats(written: Written) -> Vec<f64> {
+    fn floats(written: Written) -> Option<Vec<f64>> {
         match written {
-            Written::Floats(floats) => floats,
-            Written::U16s(_) => panic!("no floats"),
+            Written::Floats(floats) => Some(floats),
+            Written::U16s(_) => None,
         }
     }
 
-    /// Draws of all kinds by the reference's answer, with what it would write
-    /// last.
+    /// Draws of all kinds by the reference's answer, with the floats that it would
+    /// write last.
     fn drawn(call: Call, cases: u64) -> (BTreeMap<u32, u64>, Vec<Vec<f64>>) {
         let weights: Vec<u64> = kinds(call).iter().map(|(_, weight)| *weight).collect();
         let (mut draw, mut judge) = (Draw::new(5), Judge::default());
@@ -143,7 +148,7 @@ mod tests {
                 let (lists, rooms) = source.next(&mut draw);
                 let (number, written) = judge.answer(call, &call.lent(lists), &rooms);
                 *answers.entry(number).or_default() += 1;
-                last.extend(written.into_iter().next_back().map(floats));
+                last.extend(written.into_iter().next_back().and_then(floats));
             }
         }
         (answers, last)
@@ -176,11 +181,11 @@ mod tests {
     #[test]
     fn every_number_is_drawn() {
         for call in Call::ALL {
-            let mut possible = vec![1, 2, 3, 4, 5, 6];
+            let mut possible = vec![1, 2, 3, 4, 6];
+            possible.extend(call.read().contains(&List::Limits).then_some(5));
+            possible.extend(call.own().contains(&List::Joints).then_some(7));
             possible.extend(call.own().contains(&List::Goals).then_some(8));
-            if call.own().contains(&List::Joints) {
-                possible.extend([7, 9]);
-            }
+            possible.extend((kinds(call).len() > READ.len()).then_some(9));
             // Slopes take their time.
             let cases = if call.aims() { 4_000 } else { 20_000 };
             let (answers, _) = drawn(call, cases);

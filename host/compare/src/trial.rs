@@ -345,6 +345,7 @@ mod tests {
     fn answers_are_told_and_filed() {
         for (call, figure) in [
             (Call::Load, None),
+            (Call::Sizing, None),
             (Call::Pose, Some("c0.x")),
             (Call::Manipulability, Some("manipulability")),
             (Call::Objective, Some("objective")),
@@ -355,7 +356,7 @@ mod tests {
             let (lists, rooms) = source.next(&mut draw);
             let text = difference(call, Kind::Valid, lists, &rooms);
             assert!(text.starts_with("# answered: proved 99, reference 0\n"));
-            assert_eq!(text.contains("# output 0, "), figure.is_some());
+            assert_eq!(text.contains("# output 0, "), !rooms.is_empty());
             let filed = sonde::text::parse(text.as_bytes()).unwrap().filed;
             let names: Vec<&str> = filed.iter().map(|filed| &filed.name[..]).collect();
             match figure {

@@ -35,7 +35,7 @@ pub struct Sources<'a> {
     pub edits: &'a [Edit],
 }
 
-/// A call of the state, or an exported one.
+/// A call on floats, or an exported one.
 pub struct Call<'a> {
     pub id: Id,
     code: &'a source::Item,
@@ -60,13 +60,13 @@ impl Call<'_> {
 }
 
 pub struct Calls<'a> {
-    pub state: Vec<Call<'a>>,
+    pub floats: Vec<Call<'a>>,
     pub exported: Vec<Call<'a>>,
 }
 
 impl<'a> Calls<'a> {
     pub fn all(&self) -> impl Iterator<Item = &Call<'a>> {
-        self.state.iter().chain(&self.exported)
+        self.floats.iter().chain(&self.exported)
     }
 }
 
@@ -79,7 +79,7 @@ fn item_link(item: &Item) -> String {
     link(&format!("`{}`", item.name()), &item.path, item.place().line)
 }
 
-/// An exported call is told by the header, one of the state by the comment above it.
+/// An exported call is told by the header, one on floats by the comment above it.
 fn does<'a>(code: &'a source::Item, header: Option<&'a Declaration>) -> &'a str {
     match header {
         Some(declaration) if code.name.starts_with(PREFIX) => &declaration.does,
@@ -120,15 +120,16 @@ impl<'a> Sources<'a> {
 
     /// The public calls, in the header's order.
     pub fn gather(&self) -> Result<Calls<'a>, String> {
-        let of = |name: &str| -> Result<Vec<Call<'a>>, String> {
-            let calls = self.all.calls(name).into_iter().map(|id| self.call(id));
+        let of = |crates: &[&str]| -> Result<Vec<Call<'a>>, String> {
+            let ids = crates.iter().flat_map(|name| self.all.calls(name));
+            let calls = ids.map(|id| self.call(id));
             let mut calls = calls.collect::<Result<Vec<_>, _>>()?;
             calls.sort_by_key(|call| call.header.map_or(0, |declaration| declaration.line));
             Ok(calls)
         };
         Ok(Calls {
-            state: of("state_calls")?,
-            exported: of("exports")?,
+            floats: of(&["sizing", "state_calls"])?,
+            exported: of(&["exports"])?,
         })
     }
 
@@ -179,10 +180,10 @@ impl<'a> Sources<'a> {
         let exported = calls.exported.iter();
         let (bytes, numbers): (Vec<&Call>, Vec<&Call>) =
             exported.partition(|c| c.theorem.is_some());
-        let state: Vec<&Call> = calls.state.iter().collect();
+        let floats: Vec<&Call> = calls.floats.iter().collect();
         format!(
-            "{TOP}\n## The state, on floats\n\n{}\n## Byte calls\n\n{}\n## Functions of numbers\n\n{}",
-            self.table(&state, true),
+            "{TOP}\n## On floats\n\n{}\n## Byte calls\n\n{}\n## Functions of numbers\n\n{}",
+            self.table(&floats, true),
             self.table(&bytes, true),
             self.table(&numbers, false),
         )

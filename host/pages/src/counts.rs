@@ -27,7 +27,7 @@ pub struct Counts<'a> {
 }
 
 fn believed(all: &Repository, calls: &Calls) -> Result<Closure, String> {
-    let public = calls.state.iter().chain(&calls.exported);
+    let public = calls.floats.iter().chain(&calls.exported);
     let meant = public.map(|call| all.named(call.id));
     let meant = meant.collect::<Result<Vec<_>, _>>()?;
     all.closure(meant.into_iter().flatten().collect())
@@ -109,7 +109,7 @@ impl<'a> Counts<'a> {
         }
         Ok(Counts {
             all,
-            calls: (calls.state.len(), calls.exported.len()),
+            calls: (calls.floats.len(), calls.exported.len()),
             files,
             kit: closure.kit,
         })
@@ -121,13 +121,13 @@ impl<'a> Counts<'a> {
 
     /// How much there is to believe.
     pub fn sum_up(&self) -> String {
-        let (state, exported) = self.calls;
-        let calls = state + exported;
+        let (floats, exported) = self.calls;
+        let calls = floats + exported;
         let files = self.files.values().filter(|count| count.believed > 0);
         let (believed, lines) = (self.sum(|c| c.believed), self.sum(|c| c.lines));
         let (others, laws) = (self.sum(|c| c.others), self.sum(|c| c.laws));
         format!(
-            "The contracts of the {calls} public calls, {state} on the state and {exported} exported, rest on\n\
+            "The contracts of the {calls} public calls, {floats} on floats and {exported} exported, rest on\n\
              **{believed} definitions and types of {lines} lines in {} files**: those that they name, directly or through others.\n\
              They rest on none of the other {others} definitions of `specs/`, which serve laws and proofs, and on none of the {laws} laws, which are proved.\n",
             files.count(),

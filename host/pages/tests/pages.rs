@@ -143,7 +143,7 @@ fn what_is_written_stands() {
     assert!(said.trim_end().ends_with(" passed, 0 failed"), "{said}");
     let trust = small.text("docs/TRUST.md");
     assert!(
-        trust.contains("the 2 public calls, 1 on the state and 1 exported"),
+        trust.contains("the 2 public calls, 1 on floats and 1 exported"),
         "{trust}"
     );
     // `twice` and `State`: two and three lines. `unused` and Rows.antt's two are in no contract.

@@ -1,9 +1,10 @@
 //! The published files of relaxed_ik_core (commit 1c48d2ae40, MIT, see
 //! LICENSE), run on document 01's stand-ins. README.md lists every place where
-//! a file differs from the published one. `sheet`, `refusals`, `record` and
-//! `losses` are ours: the first makes the published structures from plain
-//! numbers, the second says which numbers document 01 refuses, the third walks
-//! its separate copies, the last asks the objectives for single losses.
+//! a file differs from the published one. `sheet`, `refusals`, `record`,
+//! `sizing` and `losses` are ours: the first makes the published structures from
+//! plain numbers, the second says which numbers document 01 refuses, the third
+//! walks its separate copies, the fourth counts what all of these make of a
+//! sheet, the last asks the objectives for single losses.
 
 #![forbid(unsafe_code)]
 // The published files are left as they are written.
@@ -36,3 +37,5 @@ pub mod record;
 pub mod refusals;
 #[warn(dead_code, non_snake_case, unused, clippy::all)]
 pub mod sheet;
+#[warn(dead_code, non_snake_case, unused, clippy::all)]
+pub mod sizing;

@@ -4,6 +4,7 @@
 //! The state numbers 20 to 22 are no concern here: a byte call keeps no state.
 
 use crate::sheet::{END_FLOATS, GOAL_FLOATS, LINK_FLOATS};
+use crate::sizing::PLAN;
 
 /// The answer of a call that is not refused.
 pub const ACCEPTED: u32 = 0;
@@ -212,8 +213,10 @@ fn wrong_limits(sheet: &Sheet) -> bool {
 }
 
 /// 6.
-fn wrong_link(link: &[f64]) -> bool {
-    !link[..3].iter().all(|&v| within(v, -10.0, 10.0)) || !is_turn(&link[3..])
+fn wrong_links(sheet: &Sheet) -> bool {
+    let wrong =
+        |link: &[f64]| !link[..3].iter().all(|&v| within(v, -10.0, 10.0)) || !is_turn(&link[3..]);
+    sheet.floats.numbers.chunks_exact(LINK_FLOATS).any(wrong)
 }
 
 /// 7, for a block of joints or several blocks in one list.
@@ -231,7 +234,8 @@ fn wrong_goals(goals: List<f64>, chains: usize) -> bool {
     !goals.has(GOAL_FLOATS * chains) || goals.numbers.chunks_exact(GOAL_FLOATS).any(wrong)
 }
 
-pub fn load(sheet: &Sheet) -> u32 {
+/// 1 to 4, which sizes, codes and the lengths of their lists decide.
+fn shape(sheet: &Sheet) -> u32 {
     if wrong_sizes(sheet.sizes) {
         1
     } else if wrong_arrays(sheet) {
@@ -240,17 +244,25 @@ pub fn load(sheet: &Sheet) -> u32 {
         3
     } else if wrong_joints(sheet) {
         4
-    } else if wrong_limits(sheet) {
-        5
-    } else if sheet
-        .floats
-        .numbers
-        .chunks_exact(LINK_FLOATS)
-        .any(wrong_link)
-    {
-        6
     } else {
         ACCEPTED
+    }
+}
+
+pub fn load(sheet: &Sheet) -> u32 {
+    match shape(sheet) {
+        ACCEPTED if wrong_limits(sheet) => 5,
+        ACCEPTED if wrong_links(sheet) => 6,
+        answer => answer,
+    }
+}
+
+/// As at loading, but for 5: the sheet's limits are not looked at.
+pub fn sizing(sheet: &Sheet, plan: Room) -> u32 {
+    match shape(sheet) {
+        ACCEPTED if wrong_links(sheet) => 6,
+        ACCEPTED if !plan.holds(PLAN) => 9,
+        answer => answer,
     }
 }
 

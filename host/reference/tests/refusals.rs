@@ -1,43 +1,11 @@
 //! Document 01's refusals at their edges, and in their order.
 
+mod lists;
+
+use lists::{chains, Lists, UP};
 use reference::refusals::*;
 
-const UP: [f64; 7] = [0.0, 0.0, 1.0, 1.0, 0.0, 0.0, 0.0];
-
-/// Lists that nothing is wrong with, to be spoilt in a place or two.
-struct Lists {
-    sizes: Vec<u16>,
-    codes: Vec<u16>,
-    floats: Vec<f64>,
-    limits: Vec<f64>,
-    joints: Vec<f64>,
-}
-
-/// Chains given by their codes.
-fn chains(codes: &[&[u16]]) -> Lists {
-    let mut sizes = vec![codes.len() as u16];
-    sizes.extend(codes.iter().map(|chain| chain.len() as u16));
-    let codes = codes.concat();
-    let joints = codes.iter().filter(|&&code| code != 0).count();
-    Lists {
-        sizes,
-        floats: UP.repeat(codes.len()),
-        limits: [-3.0, 3.0].repeat(joints),
-        joints: vec![0.5; joints],
-        codes,
-    }
-}
-
 impl Lists {
-    fn sheet(&self) -> Sheet<'_> {
-        Sheet {
-            sizes: List::of(&self.sizes),
-            codes: List::of(&self.codes),
-            floats: List::of(&self.floats),
-            limits: List::of(&self.limits),
-        }
-    }
-
     fn load(&self) -> u32 {
         load(&self.sheet())
     }

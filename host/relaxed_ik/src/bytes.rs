@@ -22,6 +22,16 @@ mod c {
             limits: *const u8,
             limits_length: usize,
         ) -> u32;
+        pub fn relaxed_ik_sizing(
+            sizes: *const u8,
+            sizes_length: usize,
+            codes: *const u8,
+            codes_length: usize,
+            floats: *const u8,
+            floats_length: usize,
+            plan: *mut u8,
+            plan_length: usize,
+        ) -> u32;
         pub fn relaxed_ik_set_goals(
             sizes: *const u8,
             sizes_length: usize,
@@ -411,7 +421,7 @@ pub fn gram(columns: &[u8], row: u32, column: u32) -> f64 {
     unsafe { c::relaxed_ik_gram(columns.as_ptr(), columns.len(), row, column) }
 }
 
-/// What every call on arms is lent first.
+/// What every call on arms but `sizing` is lent first.
 #[derive(Clone, Copy, Debug)]
 pub struct Sheet<'a> {
     pub sizes: &'a [u8],
@@ -439,6 +449,23 @@ macro_rules! call {
 
 pub fn load(sheet: Sheet) -> u32 {
     call!(relaxed_ik_load, sheet)
+}
+
+/// Four u16s: the floats of both lists of `frames`, the objectives, and the
+/// entries of the one-block call's record. It is lent no limits.
+pub fn sizing(sizes: &[u8], codes: &[u8], floats: &[u8], plan: &mut [u8]) -> u32 {
+    unsafe {
+        c::relaxed_ik_sizing(
+            sizes.as_ptr(),
+            sizes.len(),
+            codes.as_ptr(),
+            codes.len(),
+            floats.as_ptr(),
+            floats.len(),
+            plan.as_mut_ptr(),
+            plan.len(),
+        )
+    }
 }
 
 /// 13 floats a chain: position, rotation w first, six tolerances.

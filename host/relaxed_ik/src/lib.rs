@@ -4,7 +4,7 @@
 //! The calls keep no state. A [`Sheet`] is lent to each of them, with goals and
 //! history where they are used; they answer from these alone. So nothing has to
 //! be loaded before: each call looks at everything it is lent, and [`Sheet::load`]
-//! does only that.
+//! does only that. How long the frame lists and the record are, [`Plan`] says.
 //!
 //! Lists that are written are lent as `&mut`, so they cannot share a byte with
 //! another list of the call:
@@ -50,10 +50,12 @@ pub mod bytes;
 pub mod leaves;
 #[cfg(feature = "objective")]
 mod objective;
+mod plan;
 mod refusal;
 
 #[cfg(feature = "objective")]
 pub use objective::{Given, Record, RecordLists, Slopes, Walk, NONE_RAISED};
+pub use plan::Plan;
 pub use refusal::Refusal;
 
 use bytes::{of_floats, of_floats_mut, of_u16s};
@@ -162,8 +164,9 @@ impl Sheet<'_> {
 
     /// Where every link stands, chain after chain.
     pub fn frames(&self, joints: &[f64]) -> Result<Vec<Frames>, Refusal> {
-        let mut positions = vec![0.0; 3 * (self.links() + self.chains())];
-        let mut rotations = vec![0.0; 4 * (self.links() + 2 * self.chains())];
+        let room = self.room();
+        let mut positions = vec![0.0; room.positions];
+        let mut rotations = vec![0.0; room.rotations];
         self.frames_into(joints, &mut positions, &mut rotations)?;
         let (mut points, mut turns) = (&positions[..], &rotations[..]);
         let mut chain = |&links: &u16| {

@@ -2,7 +2,7 @@
 
 use crate::bytes::{self, of_floats, of_floats_mut, of_u16s_mut};
 use crate::refusal::taken;
-use crate::{Pose, Refusal, Sheet, POSE_FLOATS};
+use crate::{Pose, Refusal, Sheet};
 
 /// In a record, the joint of the first walk.
 pub const NONE_RAISED: u16 = 65535;
@@ -56,20 +56,6 @@ impl Given<'_> {
         }
     }
 
-    /// Links that the one-block call walks: all of them once, then for each
-    /// joint those from its own to its chain's end.
-    pub fn walked(&self) -> usize {
-        let mut codes = self.sheet.codes;
-        let mut again = 0;
-        for &links in self.sheet.sizes.iter().skip(1) {
-            let (chain, rest) = codes.split_at(codes.len().min(usize::from(links)));
-            let joints = chain.iter().enumerate().filter(|(_, &code)| code != 0);
-            again += joints.map(|(at, _)| chain.len() - at).sum::<usize>();
-            codes = rest;
-        }
-        self.sheet.links() + again
-    }
-
     pub fn objective(&self, joints: &[f64]) -> Result<f64, Refusal> {
         let mut value = [0.0];
         taken(bytes::objective(
@@ -107,9 +93,9 @@ impl Given<'_> {
 
     /// What `gradient` answers, on one block, and the links it walked.
     pub fn gradient_one_block(&self, joints: &[f64]) -> Result<(Slopes, Record), Refusal> {
-        let entries = self.walked();
-        let (mut raised, mut links) = (vec![0; entries], vec![0; entries]);
-        let mut poses = vec![0.0; POSE_FLOATS * entries];
+        let room = self.sheet.room();
+        let (mut raised, mut links) = (vec![0; room.entries], vec![0; room.entries]);
+        let mut poses = vec![0.0; room.pose_floats()];
         let mut slopes = vec![0.0; self.sheet.joints()];
         let mut value = 0.0;
         let lists = RecordLists {

@@ -1,55 +1,16 @@
 //! The calls on arms, on sheets written by hand.
 
+mod lists;
+
+use lists::chains;
 use relaxed_ik::{bytes, Refusal, Sheet};
-
-const UP: [f64; 7] = [0.0, 0.0, 1.0, 1.0, 0.0, 0.0, 0.0];
-
-/// A sheet that can be spoiled.
-#[derive(Clone)]
-struct Lists {
-    sizes: Vec<u16>,
-    codes: Vec<u16>,
-    floats: Vec<f64>,
-    limits: Vec<f64>,
-}
-
-/// Chains of links up 1, with wide limits.
-fn chains(chains: &[&[u16]]) -> Lists {
-    let codes = chains.concat();
-    let joints = codes.iter().filter(|&&code| code != 0).count();
-    let mut sizes = vec![chains.len() as u16];
-    sizes.extend(chains.iter().map(|chain| chain.len() as u16));
-    Lists {
-        sizes,
-        floats: UP.repeat(codes.len()),
-        limits: [-3.0, 3.0].repeat(joints),
-        codes,
-    }
-}
-
-impl Lists {
-    fn sheet(&self) -> Sheet<'_> {
-        Sheet {
-            sizes: &self.sizes,
-            codes: &self.codes,
-            floats: &self.floats,
-            limits: &self.limits,
-        }
-    }
-
-    fn spoiled(&self, spoil: impl FnOnce(&mut Self)) -> Option<Refusal> {
-        let mut lists = self.clone();
-        spoil(&mut lists);
-        lists.sheet().load().err()
-    }
-}
 
 #[test]
 fn each_refusal_by_its_number() {
-    let good = chains(&[&[13, 12, 0], &[31, 22]]);
+    let good = chains(&[&[13, 12, 0][..], &[31, 22]]);
     assert_eq!(good.sheet().load(), Ok(()));
     let nan = f64::NAN;
-    for (refusal, found) in [
+    for (refusal, lists) in [
         (Refusal::Sizes, good.spoiled(|l| l.sizes.clear())),
         (Refusal::Sizes, good.spoiled(|l| l.sizes[1] = 17)),
         (Refusal::Lengths, good.spoiled(|l| l.codes.truncate(4))),
@@ -61,7 +22,7 @@ fn each_refusal_by_its_number() {
         (Refusal::Link, good.spoiled(|l| l.floats[2] = 10.5)),
         (Refusal::Link, good.spoiled(|l| l.floats[3] = 0.9)),
     ] {
-        assert_eq!(found, Some(refusal));
+        assert_eq!(lists.sheet().load(), Err(refusal));
     }
     let (lists, joints) = (good, [0.0; 4]);
     let sheet = lists.sheet();
@@ -80,13 +41,13 @@ fn each_refusal_by_its_number() {
 
 #[test]
 fn the_lowest_number_is_answered() {
-    let lists = chains(&[&[13, 12]]);
+    let lists = chains(&[[13, 12]]);
     let spoiled = lists.spoiled(|l| {
         l.floats[0] = 11.0;
         l.limits[0] = 200.0;
         l.codes[0] = 99;
     });
-    assert_eq!(spoiled, Some(Refusal::Code));
+    assert_eq!(spoiled.sheet().load(), Err(Refusal::Code));
 }
 
 /// No lists at all, and lists far longer than any that is taken.
@@ -98,9 +59,10 @@ fn odd_sheets_are_refused_and_nothing_else_happens() {
         floats: &[],
         limits: &[],
     };
-    let long = chains(&[&[13; 3000], &[12; 3000]]);
+    let long = chains(&[[13; 3000], [12; 3000]]);
     for sheet in [empty, long.sheet()] {
         assert_eq!(sheet.load(), Err(Refusal::Sizes));
+        assert_eq!(sheet.plan(), Err(Refusal::Sizes));
         assert_eq!(sheet.frames(&[]), Err(Refusal::Sizes));
         assert_eq!(sheet.poses(&[]), Err(Refusal::Sizes));
         assert_eq!(sheet.manipulability(&[]), Err(Refusal::Sizes));
@@ -111,7 +73,7 @@ fn odd_sheets_are_refused_and_nothing_else_happens() {
 
 #[test]
 fn two_links_up() {
-    let lists = chains(&[&[13, 12]]);
+    let lists = chains(&[[13, 12]]);
     let frames = lists.sheet().frames(&[0.0, 0.0]).unwrap();
     assert_eq!(frames.len(), 1);
     let heights = [0.0, 1.0, 2.0].map(|z| [0.0, 0.0, z]);
@@ -121,7 +83,7 @@ fn two_links_up() {
 
 #[test]
 fn frames_of_two_chains_come_apart() {
-    let lists = chains(&[&[13, 12, 0], &[31, 22]]);
+    let lists = chains(&[&[13, 12, 0][..], &[31, 22]]);
     let frames = lists.sheet().frames(&[0.0, 0.0, 0.25, 0.0]).unwrap();
     let counts = frames
         .iter()
@@ -135,7 +97,7 @@ fn frames_of_two_chains_come_apart() {
 
 #[test]
 fn a_longer_list_keeps_its_tail() {
-    let lists = chains(&[&[13, 12]]);
+    let lists = chains(&[[13, 12]]);
     let mut ends = [9.0; 8];
     lists.sheet().poses_into(&[0.0, 0.0], &mut ends).unwrap();
     assert_eq!(ends, [0.0, 0.0, 2.0, 1.0, 0.0, 0.0, 0.0, 9.0]);
@@ -143,7 +105,7 @@ fn a_longer_list_keeps_its_tail() {
 
 #[test]
 fn reset_a_update_b_update_c() {
-    let lists = chains(&[&[13, 12]]);
+    let lists = chains(&[[13, 12]]);
     let sheet = lists.sheet();
     let (a, b, c) = ([0.1, 0.2], [0.3, 0.4], [0.5, -0.0]);
     let start = sheet.reset(&a).unwrap();
@@ -175,7 +137,7 @@ fn manipulability_needs_six_joints() {
 
 #[test]
 fn a_pose_rotates_as_the_frames_do() {
-    let lists = chains(&[&[12, 13]]);
+    let lists = chains(&[[12, 13]]);
     let quarter = std::f64::consts::FRAC_PI_2;
     let end = lists.sheet().poses(&[quarter, 0.0]).unwrap()[0];
     let z = end.rotate([0.0, 0.0, 1.0]);

@@ -97,6 +97,37 @@ fn goals_are_13_floats_a_chain() {
     assert_eq!(bytes::set_goals(lists.sheet(), &[]), 8);
 }
 
+#[test]
+fn a_plan_is_four_u16s() {
+    let lists = chain(&[0, 13, 12, 0]);
+    let ask = |plan: &mut [u8]| bytes::sizing(&lists.sizes, &lists.codes, &lists.floats, plan);
+    let mut plan = u16s(&[7; 5]);
+    assert_eq!(ask(&mut plan), 0);
+    assert_eq!(plan, u16s(&[15, 24, 12, 9, 7]), "the tail is kept");
+    // Too short, or long enough and no whole number of u16s.
+    for length in [0, 1, 6, 7, 9, 11] {
+        let mut plan = vec![7; length];
+        assert_eq!(ask(&mut plan), 9, "{length} bytes");
+        assert_eq!(plan, vec![7; length]);
+    }
+}
+
+/// A ragged list is refused by its own number, and before the plan's.
+#[test]
+fn a_ragged_sheet_has_no_plan() {
+    let good = chain(&[13, 12]);
+    for (at, answer) in [(0, 1), (1, 2), (2, 2)] {
+        let mut lists = [&good.sizes[..], &good.codes, &good.floats];
+        lists[at] = &lists[at][1..];
+        for length in [8, 3] {
+            let mut plan = vec![7; length];
+            let found = bytes::sizing(lists[0], lists[1], lists[2], &mut plan);
+            assert_eq!(found, answer, "list {at}");
+            assert_eq!(plan, vec![7; length]);
+        }
+    }
+}
+
 #[cfg(feature = "objective")]
 mod objective {
     use super::{chain, floats, u16s, Lists};

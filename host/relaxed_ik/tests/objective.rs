@@ -35,7 +35,7 @@ fn the_calls_agree() {
         assert_eq!([two.value, coarse.value, one.value], [value; 3]);
         assert_eq!(one, two);
         assert_eq!(one.slopes.len(), 3);
-        assert_eq!(record.len(), given.walked());
+        assert_eq!(record.len(), given.sheet.plan().unwrap().entries);
         let ends = given.sheet.poses(&joints).unwrap();
         assert_eq!(record[3].pose, ends[0]);
     });
@@ -44,7 +44,6 @@ fn the_calls_agree() {
 #[test]
 fn nine_links_are_walked() {
     with(&[0, 13, 12, 0], &[0.0, 0.0], |given| {
-        assert_eq!(given.walked(), 9);
         let (_, record) = given.gradient_one_block(&[0.0, 0.0]).unwrap();
         let walked: Vec<_> = record.iter().map(|w| (w.raised, w.link)).collect();
         let mut expected: Vec<_> = (0..4).map(|link| (None, link)).collect();
@@ -119,7 +118,7 @@ fn the_longest_record() {
         goals: &GOAL.repeat(4),
         history: &[0.1; 64],
     };
-    assert_eq!(given.walked(), 296);
+    assert_eq!(sheet.plan().unwrap().entries, 296);
     let ask = |entries: usize| {
         let lists = RecordLists {
             joints: &mut vec![0; entries],

@@ -7,8 +7,8 @@
 mod samples;
 
 use reference::groove::objective_master::ObjectiveMaster;
-use reference::{refusals, sheet};
-use samples::{Chain, Sample};
+use reference::{record, refusals, sheet};
+use samples::{Arms, Chain, Sample};
 use sheet_text::{Text, PARTS};
 use std::fs;
 use std::path::Path;
@@ -17,7 +17,7 @@ use std::process::ExitCode;
 const USAGE: &str = "\
 sheets DIR [--check]
 
-  DIR      the folder for good/ and bad/
+  DIR      the folder for good/, bad/ and arms/
   --check  writes nothing, and says whether the files are as they would be
            written; the last line is 'N passed, M failed'";
 
@@ -41,10 +41,10 @@ struct Lists {
     limits: Vec<f64>,
 }
 
-fn lists(sample: &Sample) -> Lists {
-    let mut sizes = vec![sample.chains.len() as u16];
-    sizes.extend(sample.chains.iter().map(|chain| chain.links.len() as u16));
-    let links = || sample.chains.iter().flat_map(|chain| &chain.links);
+fn lists(chains: &[Chain]) -> Lists {
+    let mut sizes = vec![chains.len() as u16];
+    sizes.extend(chains.iter().map(|chain| chain.links.len() as u16));
+    let links = || chains.iter().flat_map(|chain| &chain.links);
     Lists {
         sizes,
         codes: links().map(|link| link.code).collect(),
@@ -89,7 +89,7 @@ fn taken(lists: &Lists, goals: &[f64], history: &[f64], joints: &[f64]) -> bool 
 
 /// The text of a good sheet.
 fn good(sample: &Sample) -> String {
-    let lists = lists(sample);
+    let lists = lists(&sample.chains);
     let goals = goals(sample, &lists);
     let joints = &sample.joints;
     let history = match &sample.history {
@@ -117,6 +117,33 @@ fn good(sample: &Sample) -> String {
     if sample.filed {
         text.line("");
         file(&mut text, sample, &lists, &goals, &history);
+    }
+    text.finish()
+}
+
+/// Arms without limits or joints. The first line says what `sonde --sizes` is to
+/// print: the lengths of the reference run's own lists.
+fn arms(sample: &Arms) -> String {
+    let lists = lists(&sample.chains);
+    let robot = sheet::robot(&lists.sizes, &lists.codes, &lists.floats, &lists.limits);
+    let joints = vec![0.0; robot.num_dofs];
+    let (positions, rotations) = sheet::frames(&robot, &joints);
+    let objectives = ObjectiveMaster::relaxed_ik(&robot.chain_lengths).objectives;
+    let entries = record::record(&robot, &joints).links;
+    let mut text = Text::default();
+    text.comment(&format!(
+        "expected: positions {}, rotations {}, objectives {}, entries {}",
+        positions.len(),
+        rotations.len(),
+        objectives.len(),
+        entries.len()
+    ));
+    text.start();
+    text.line(&format!("hole {}", sample.hole));
+    for chain in &sample.chains {
+        text.chain(chain.name);
+        let links = chain.links.iter();
+        links.for_each(|link| text.link(link.code, &link.floats));
     }
     text.finish()
 }
@@ -169,6 +196,9 @@ fn files() -> Vec<(String, String)> {
     let mut files = Vec::new();
     for sample in &goods {
         files.push((format!("good/{}.sheet", sample.file), good(sample)));
+    }
+    for sample in samples::arms() {
+        files.push((format!("arms/{}.sheet", sample.file), arms(&sample)));
     }
     let base = good(&goods[0]);
     for bad in samples::bad() {

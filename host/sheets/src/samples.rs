@@ -193,6 +193,22 @@ pub fn good() -> Vec<Sample> {
     ]
 }
 
+/// Arms alone, as `sonde --sizes` takes them.
+pub struct Arms {
+    pub file: &'static str,
+    pub hole: &'static str,
+    pub chains: Vec<Chain>,
+}
+
+pub fn arms() -> Vec<Arms> {
+    let named = |file, hole, chains| Arms { file, hole, chains };
+    vec![
+        named("boom", "Rig north, its boom", rig()),
+        named("two_arms", "Rig south, both arms", two_arms()),
+        named("largest", "Test stand, four arms", largest()),
+    ]
+}
+
 /// The first good sheet with one line changed.
 pub struct Bad {
     pub file: &'static str,

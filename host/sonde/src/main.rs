@@ -5,11 +5,13 @@
 
 mod batch;
 mod report;
+mod sizes;
 mod svg;
 mod why;
 mod work;
 
 use report::{Outcome, Problem, GOOD, UNUSABLE};
+use sizes::Planned;
 use sonde::text;
 use std::io::{Read as _, Write as _};
 use std::process::ExitCode;
@@ -18,18 +20,21 @@ use std::{env, fs, io};
 const USAGE: &str = "\
 sonde SHEET [--json] [--svg FILE]
 sonde --batch DIR [--json]
+sonde --sizes SHEET [--json]
 sonde --version
 
   SHEET        the sheet to work out, - for the standard input
   --json       one line of JSON a sheet, for programs
   --svg FILE   draws the arm and its goals into FILE
   --batch DIR  every *.sheet of a folder, and a table of them
+  --sizes      how long the lists are that a program reserves for the arms of
+               SHEET; limits, joints and goals are read and not judged
   --version    the program's version, and the proved library it is linked with
 
-exit status: 0 worked out, and every filed figure agrees; 1 a filed figure
-differs (with --batch: a sheet is not good); 2 a file or the command line cannot
-be used; 3 a fault in the text; 11 to 18 refused by the library, with number 1
-to 8";
+exit status: 0 worked out, and every filed figure agrees (with --sizes: planned);
+1 a filed figure differs (with --batch: a sheet is not good); 2 a file or the
+command line cannot be used; 3 a fault in the text; 11 to 18 refused by the
+library, with number 1 to 8";
 
 #[derive(Debug, Default, PartialEq)]
 struct Options {
@@ -37,6 +42,7 @@ struct Options {
     batch: Option<String>,
     svg: Option<String>,
     json: bool,
+    sizes: bool,
     help: bool,
     version: bool,
 }
@@ -51,6 +57,7 @@ fn options(mut arguments: impl Iterator<Item = String>) -> Result<Options, Strin
         };
         match argument.as_str() {
             "--json" => options.json = true,
+            "--sizes" => options.sizes = true,
             "--svg" => options.svg = Some(value()?),
             "--batch" => options.batch = Some(value()?),
             "--help" | "-h" => options.help = true,
@@ -67,6 +74,8 @@ fn options(mut arguments: impl Iterator<Item = String>) -> Result<Options, Strin
         (None, None) => Err("which sheet?".to_string()),
         (Some(_), Some(_)) => Err("a sheet or --batch, not both".to_string()),
         (None, Some(_)) if options.svg.is_some() => Err("--svg draws one sheet".to_string()),
+        (None, Some(_)) if options.sizes => Err("--sizes is for one sheet".to_string()),
+        _ if options.sizes && options.svg.is_some() => Err("--sizes draws nothing".to_string()),
         _ => Ok(options),
     }
 }
@@ -84,22 +93,31 @@ fn read(path: &str) -> io::Result<Vec<u8>> {
     Ok(bytes)
 }
 
+type Answered<T> = Result<(text::File, T), Problem>;
+
+/// The sheet, and what came of what was asked of it.
+fn ask<T>(bytes: &[u8], what: fn(&text::File) -> Result<T, work::Fault>) -> Answered<T> {
+    let file = text::parse(bytes).map_err(|fault| Problem::Fault(work::Fault::Text(fault)))?;
+    let found = what(&file).map_err(Problem::Fault)?;
+    Ok((file, found))
+}
+
+fn ask_of<T>(path: &str, what: fn(&text::File) -> Result<T, work::Fault>) -> Answered<T> {
+    let bytes = read(path).map_err(|error| Problem::Unreadable(error.to_string()))?;
+    ask(&bytes, what)
+}
+
 fn check(path: &str) -> Outcome {
-    let outcome = |result| Outcome {
+    Outcome {
         path: path.to_string(),
-        result,
-    };
-    let bytes = match read(path) {
-        Ok(bytes) => bytes,
-        Err(error) => return outcome(Err(Problem::Unreadable(error.to_string()))),
-    };
-    let file = match text::parse(&bytes) {
-        Ok(file) => file,
-        Err(fault) => return outcome(Err(Problem::Fault(work::Fault::Text(fault)))),
-    };
-    match work::work(&file) {
-        Ok(work) => outcome(Ok((file, work))),
-        Err(fault) => outcome(Err(Problem::Fault(fault))),
+        result: ask_of(path, work::work),
+    }
+}
+
+fn plan(path: &str) -> Planned {
+    Planned {
+        path: path.to_string(),
+        result: ask_of(path, work::plan),
     }
 }
 
@@ -133,6 +151,14 @@ fn run(options: &Options) -> Result<u8, String> {
         return Ok(u8::from(outcomes.iter().any(|one| one.status() != GOOD)));
     }
     let path = options.sheet.as_deref().unwrap_or("-");
+    if options.sizes {
+        let planned = plan(path);
+        say(&match options.json {
+            true => planned.json() + "\n",
+            false => planned.text(),
+        });
+        return Ok(planned.status());
+    }
     let outcome = check(path);
     say(&match options.json {
         true => outcome.json() + "\n",
@@ -186,6 +212,9 @@ mod tests {
         assert!(one.json && one.batch.is_none());
         assert_eq!(read("-").unwrap().sheet.as_deref(), Some("-"));
         assert_eq!(read("--batch d").unwrap().batch.as_deref(), Some("d"));
+        let sizes = read("--sizes a.sheet --json").unwrap();
+        assert_eq!(sizes.sheet.as_deref(), Some("a.sheet"));
+        assert!(sizes.sizes && sizes.json);
         assert!(read("--version").unwrap().version);
     }
 
@@ -198,6 +227,9 @@ mod tests {
             "--nothing",
             "a --batch d",
             "--batch d --svg f",
+            "--sizes",
+            "--sizes --batch d",
+            "--sizes a --svg f",
         ] {
             assert!(read(line).is_err(), "{line}");
         }
@@ -259,17 +291,25 @@ mod tests {
                 }
             }
             let text = lines.join("\n");
-            let result = match text::parse(text.as_bytes()) {
-                Err(fault) => Err(Problem::Fault(work::Fault::Text(fault))),
-                Ok(file) => match work::work(&file) {
-                    Err(fault) => Err(Problem::Fault(fault)),
-                    Ok(work) => Ok((file, work)),
-                },
-            };
             let path = "spoiled".to_string();
-            let outcome = Outcome { path, result };
+            let outcome = Outcome {
+                path: path.clone(),
+                result: ask(text.as_bytes(), work::work),
+            };
             assert!(!outcome.text().is_empty() && !outcome.json().is_empty());
             assert!(!outcome.note().contains("no single value"), "{text}");
+            let planned = Planned {
+                path,
+                result: ask(text.as_bytes(), work::plan),
+            };
+            assert!(!planned.json().is_empty());
+            assert!(!planned.text().contains("no single value"), "{text}");
+            // What a sheet is refused for in its arms, sizing tells as well.
+            match outcome.status() {
+                status @ (11..=14 | 16) => assert_eq!(planned.status(), status, "{text}"),
+                0 | 1 | 17 | 18 => assert_eq!(planned.status(), GOOD, "{text}"),
+                _ => {}
+            }
             if let Ok((file, work)) = &outcome.result {
                 assert!(svg::draw(&file.hole, work).ends_with("</svg>\n"));
             }

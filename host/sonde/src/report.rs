@@ -22,15 +22,70 @@ pub enum Problem {
     Fault(Fault),
 }
 
+impl Problem {
+    pub fn status(&self) -> u8 {
+        match self {
+            Self::Unreadable(_) => UNUSABLE,
+            Self::Fault(Fault::Text(_)) => TEXT_FAULT,
+            // The numbers are 1 to 9.
+            Self::Fault(Fault::Refused { refusal, .. }) => REFUSED + refusal.number() as u8,
+        }
+    }
+
+    pub fn word(&self) -> &'static str {
+        match self {
+            Self::Unreadable(_) => "unreadable",
+            Self::Fault(Fault::Text(_)) => "text fault",
+            Self::Fault(Fault::Refused { .. }) => "refused",
+        }
+    }
+
+    /// The line of the file that is at fault.
+    pub fn line(&self) -> Option<usize> {
+        match self {
+            Self::Unreadable(_) => None,
+            Self::Fault(Fault::Text(fault)) => fault.line,
+            Self::Fault(Fault::Refused { line, .. }) => *line,
+        }
+    }
+
+    /// On one line.
+    pub fn note(&self) -> String {
+        match self {
+            Self::Unreadable(words) => words.clone(),
+            Self::Fault(Fault::Text(fault)) => fault.to_string(),
+            Self::Fault(Fault::Refused {
+                refusal,
+                line,
+                words,
+            }) => {
+                let place = line.map_or(String::new(), |line| format!("line {line}: "));
+                format!("{place}refused, {}: {words}", refusal.number())
+            }
+        }
+    }
+
+    pub fn text(&self, path: &str) -> String {
+        let mut out = format!("{path}: {}\n", self.note());
+        if let Self::Fault(Fault::Refused { refusal, .. }) = self {
+            let _ = writeln!(out, "  taken are {}", refusal.words());
+        }
+        out
+    }
+
+    pub fn json(&self, path: &str) -> String {
+        let mut fields = head_json(path, self.word(), self.status(), self.line());
+        fields.push(("fault", problem_json(self)));
+        object(&fields)
+    }
+}
+
 impl Outcome {
     pub fn status(&self) -> u8 {
         match &self.result {
             Ok((_, work)) if work.differing() > 0 => DIFFERS,
             Ok(_) => GOOD,
-            Err(Problem::Unreadable(_)) => UNUSABLE,
-            Err(Problem::Fault(Fault::Text(_))) => TEXT_FAULT,
-            // The numbers are 1 to 9.
-            Err(Problem::Fault(Fault::Refused { refusal, .. })) => REFUSED + refusal.number() as u8,
+            Err(problem) => problem.status(),
         }
     }
 
@@ -41,9 +96,7 @@ impl Outcome {
             Ok((_, work)) if work.checks.is_empty() => "calculated",
             Ok((_, work)) if work.count(|v| *v == Verdict::NotChecked) > 0 => "agrees in part",
             Ok(_) => "agrees",
-            Err(Problem::Unreadable(_)) => "unreadable",
-            Err(Problem::Fault(Fault::Text(_))) => "text fault",
-            Err(Problem::Fault(Fault::Refused { .. })) => "refused",
+            Err(problem) => problem.word(),
         }
     }
 
@@ -52,9 +105,7 @@ impl Outcome {
     pub fn line(&self) -> Option<usize> {
         match &self.result {
             Ok((_, work)) => work.first_differing(),
-            Err(Problem::Fault(Fault::Text(fault))) => fault.line,
-            Err(Problem::Fault(Fault::Refused { line, .. })) => *line,
-            Err(Problem::Unreadable(_)) => None,
+            Err(problem) => problem.line(),
         }
     }
 
@@ -70,37 +121,16 @@ impl Outcome {
                 names.join(", ")
             }
             Ok(_) => String::new(),
-            Err(Problem::Unreadable(words)) => words.clone(),
-            Err(Problem::Fault(Fault::Text(fault))) => fault.to_string(),
-            Err(Problem::Fault(Fault::Refused {
-                refusal,
-                line,
-                words,
-            })) => {
-                let place = line.map_or(String::new(), |line| format!("line {line}: "));
-                format!("{place}refused, {}: {words}", refusal.number())
-            }
+            Err(problem) => problem.note(),
         }
     }
 
     pub fn text(&self) -> String {
         let (file, work) = match &self.result {
             Ok(done) => done,
-            Err(problem) => {
-                let mut out = format!("{}: {}\n", self.path, self.note());
-                if let Problem::Fault(Fault::Refused { refusal, .. }) = problem {
-                    let _ = writeln!(out, "  taken are {}", refusal.words());
-                }
-                return out;
-            }
+            Err(problem) => return problem.text(&self.path),
         };
-        let mut out = String::new();
-        let hole = if file.hole.is_empty() {
-            "(no name)"
-        } else {
-            &file.hole
-        };
-        let _ = writeln!(out, "{hole}, from {}", self.path);
+        let mut out = title(file, &self.path);
         let line = |out: &mut String, name: &str, v: f64| {
             let _ = writeln!(out, "  {name:<16} {v:<24} {:016x}", v.to_bits());
         };
@@ -159,18 +189,24 @@ impl Outcome {
     }
 
     pub fn json(&self) -> String {
-        let mut fields = vec![
-            ("sheet", string(&self.path)),
-            ("outcome", string(self.word())),
-            ("status", self.status().to_string()),
-            ("line", optional(self.line().map(|line| line.to_string()))),
-        ];
-        match &self.result {
-            Ok((file, work)) => fields.extend(work_json(file, work)),
-            Err(problem) => fields.push(("fault", problem_json(problem))),
-        }
+        let (file, work) = match &self.result {
+            Ok(done) => done,
+            Err(problem) => return problem.json(&self.path),
+        };
+        let mut fields = head_json(&self.path, self.word(), self.status(), self.line());
+        fields.extend(work_json(file, work));
         object(&fields)
     }
+}
+
+/// The hole and the file that it is from.
+pub fn title(file: &File, path: &str) -> String {
+    let hole = if file.hole.is_empty() {
+        "(no name)"
+    } else {
+        &file.hole
+    };
+    format!("{hole}, from {path}\n")
 }
 
 fn filed_text(work: &Work) -> String {
@@ -260,6 +296,21 @@ fn float(v: f64) -> String {
 
 fn optional(text: Option<String>) -> String {
     text.unwrap_or_else(|| "null".to_string())
+}
+
+/// What a line of JSON begins with, whatever became of the sheet.
+pub fn head_json(
+    path: &str,
+    word: &str,
+    status: u8,
+    line: Option<usize>,
+) -> Vec<(&'static str, String)> {
+    vec![
+        ("sheet", string(path)),
+        ("outcome", string(word)),
+        ("status", status.to_string()),
+        ("line", optional(line.map(|line| line.to_string()))),
+    ]
 }
 
 fn work_json(file: &File, work: &Work) -> Vec<(&'static str, String)> {

@@ -142,6 +142,15 @@ impl File {
         self.chains.iter().flat_map(numbered)
     }
 
+    /// The sheet with its arms and nothing else.
+    pub fn arms(&self) -> Self {
+        Self {
+            hole: self.hole.clone(),
+            chains: self.chains.clone(),
+            ..Self::default()
+        }
+    }
+
     pub fn lists(&self) -> Lists {
         // A count beyond u16 is beyond what is taken, whatever it is.
         let short = |n: usize| u16::try_from(n).unwrap_or(u16::MAX);

@@ -2,7 +2,7 @@
 
 use crate::text::{same, Figure, File, Filed, Key, TextFault};
 use crate::why;
-use relaxed_ik::{Frames, Pose, Refusal};
+use relaxed_ik::{Frames, Plan, Pose, Refusal};
 
 /// Whether this program was built with the objective.
 pub const HAS_OBJECTIVE: bool = cfg!(feature = "objective");
@@ -278,6 +278,16 @@ pub fn work(file: &File) -> Result<Work, Fault> {
     Ok(work)
 }
 
+/// Asks the library how long the lists are. Nothing but the arms is looked at.
+pub fn plan(file: &File) -> Result<Plan, Fault> {
+    let arms = file.arms();
+    if let Some(uneven) = arms.uneven() {
+        return Err(Fault::Text(uneven));
+    }
+    let plan = arms.lists().sheet().plan();
+    plan.map_err(|refusal| Fault::refused(refusal, &arms))
+}
+
 #[cfg(test)]
 mod tests {
     use super::*;
@@ -350,10 +360,14 @@ goal 0 0 2  1 0 0 0  0 0 0 0 0 0
 filed arm.z 2 4000000000000000
 ";
 
-    fn refused(good: &str, bad: &str) -> (u32, Option<usize>, String) {
+    fn spoiled(good: &str, bad: &str) -> File {
         let text = TWO.replacen(good, bad, 1);
         assert_ne!(text, TWO);
-        match work(&parse(text.as_bytes()).unwrap()).unwrap_err() {
+        parse(text.as_bytes()).unwrap()
+    }
+
+    fn told(fault: Fault) -> (u32, Option<usize>, String) {
+        match fault {
             Fault::Refused {
                 refusal,
                 line,
@@ -372,6 +386,29 @@ filed arm.z 2 4000000000000000
         assert_eq!(found.differing(), 1);
         let came = Verdict::Differs("2 4000000000000000".to_string());
         assert_eq!(found.checks[0].verdict, came);
+    }
+
+    /// Neither limits nor joints nor goals are asked for, nor looked at.
+    #[test]
+    fn arms_alone_have_a_plan() {
+        let expected = Plan {
+            positions: 9,
+            rotations: 16,
+            objectives: 12,
+            entries: 5,
+        };
+        let arms: Vec<&str> = TWO.lines().take(4).collect();
+        let odd = format!("{}\nlimits 1\nlimits 1 2 3\n", arms.join("\n"));
+        for text in [TWO, &arms.join("\n"), &odd] {
+            assert_eq!(plan(&parse(text.as_bytes()).unwrap()), Ok(expected));
+        }
+        // A line too long and one too short by as much, which no list shows.
+        let uneven = odd.replace("z  0 0 1", "z  0 1").replace("y  0", "y  0 0");
+        let fault = plan(&parse(uneven.as_bytes()).unwrap()).unwrap_err();
+        assert!(matches!(
+            fault,
+            Fault::Text(TextFault { line: Some(3), .. })
+        ));
     }
 
     /// The number is the library's, the line and the value are found here.
@@ -409,9 +446,15 @@ filed arm.z 2 4000000000000000
                 "tolerance 5 is -200",
             ),
         ] {
-            let (found, at, said) = refused(good, bad);
+            let file = spoiled(good, bad);
+            let (found, at, said) = told(work(&file).unwrap_err());
             assert_eq!((found, at), (number, Some(line)), "{bad}: {said}");
             assert!(said.contains(words), "{said}");
+            // Sizing tells the same of the arms, and looks at nothing else.
+            match plan(&file) {
+                Err(fault) => assert_eq!(told(fault), (found, at, said)),
+                Ok(_) => assert!([5, 7, 8].contains(&number), "{bad}"),
+            }
         }
         let far = format!("{TWO}filed slope.2 0 0000000000000000\n");
         let fault = work(&parse(far.as_bytes()).unwrap()).unwrap_err();

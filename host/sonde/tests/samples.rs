@@ -1,5 +1,6 @@
 //! The program on the sample sheets: the good ones are worked out and agree, a
-//! bad one ends with the status, and names the line, that its first line says.
+//! bad one ends with the status, and names the line, that its first line says,
+//! and arms alone are planned as theirs says.
 
 use std::fs;
 use std::path::{Path, PathBuf};
@@ -32,6 +33,13 @@ fn field(json: &str, name: &str) -> String {
     let name = format!("\"{name}\":");
     let at = json.find(&name).unwrap() + name.len();
     json[at..].split([',', '}']).next().unwrap().to_string()
+}
+
+/// The first number after these words on their line.
+fn number(text: &str, words: &str) -> String {
+    let mut lines = text.lines().map(str::trim);
+    let rest = lines.find_map(|line| line.strip_prefix(words)).unwrap();
+    rest.split_whitespace().next().unwrap().to_string()
 }
 
 /// The version is the package's, and the library the one that was linked, by
@@ -106,6 +114,53 @@ fn bad_sheets_end_as_they_say() {
     assert!(statuses.contains(&1) && statuses.contains(&3));
 }
 
+/// The lengths that the first line of the arms alone says, which are those of the
+/// reference run's lists; in words, too, each stands by its list.
+#[test]
+fn arms_are_planned_as_they_say() {
+    for path in sheets("arms") {
+        let first = fs::read_to_string(&path).unwrap();
+        let first = first.lines().next().unwrap();
+        let expected = first.strip_prefix("# expected: ").unwrap();
+        let path = path.to_str().unwrap();
+        let [json, text] = [&["--sizes", path, "--json"][..], &["--sizes", path]].map(|words| {
+            let output = sonde(words);
+            assert_eq!(output.status.code(), Some(0));
+            said(&output)
+        });
+        assert_eq!(field(&json, "outcome"), "\"planned\"");
+        for part in expected.split(", ") {
+            let (name, count) = part.split_once(' ').unwrap();
+            assert_eq!(field(&json, name), count, "{json}");
+            let list = name.replace("entries", "record joints");
+            assert_eq!(number(&text, &list), count, "{text}");
+        }
+        // Without limits there is a plan, and nothing that could be worked out.
+        assert_eq!(sonde(&[path]).status.code(), Some(15));
+    }
+}
+
+/// A fault in the arms or in the text is told as ever, one in anything else is
+/// not looked at.
+#[test]
+fn sizing_looks_at_the_arms_alone() {
+    for path in sheets("good").into_iter().chain(sheets("bad")) {
+        let whole = sonde(&[path.to_str().unwrap(), "--json"]);
+        let sizes = sonde(&["--sizes", path.to_str().unwrap(), "--json"]);
+        let json = said(&sizes);
+        match whole.status.code() {
+            Some(2 | 3 | 11..=14 | 16) => {
+                assert_eq!(sizes.status.code(), whole.status.code());
+                assert_eq!(json, said(&whole));
+            }
+            _ => {
+                assert_eq!(sizes.status.code(), Some(0), "{json}");
+                assert_eq!(field(&json, "outcome"), "\"planned\"");
+            }
+        }
+    }
+}
+
 #[test]
 fn a_folder_is_summed_up() {
     let good = sonde(&["--batch", folder("good").to_str().unwrap()]);
@@ -139,5 +194,7 @@ fn what_cannot_be_used_is_told() {
     assert_eq!(sonde(&[]).status.code(), Some(2));
     assert_eq!(sonde(&["nowhere.sheet"]).status.code(), Some(2));
     assert_eq!(sonde(&["--batch", "nowhere"]).status.code(), Some(2));
+    assert_eq!(sonde(&["--sizes"]).status.code(), Some(2));
+    assert_eq!(sonde(&["--sizes", "nowhere.sheet"]).status.code(), Some(2));
     assert_eq!(sonde(&["--help"]).status.code(), Some(0));
 }

@@ -1,0 +1,46 @@
+//! Sheets written by hand.
+
+use relaxed_ik::Sheet;
+use std::borrow::Borrow;
+
+const UP: [f64; 7] = [0.0, 0.0, 1.0, 1.0, 0.0, 0.0, 0.0];
+
+/// A sheet that can be spoiled.
+#[derive(Clone)]
+pub struct Lists {
+    pub sizes: Vec<u16>,
+    pub codes: Vec<u16>,
+    pub floats: Vec<f64>,
+    pub limits: Vec<f64>,
+}
+
+/// Chains of links up 1, with wide limits, given by their codes.
+pub fn chains<C: Borrow<[u16]>>(chains: &[C]) -> Lists {
+    let codes = chains.concat();
+    let joints = codes.iter().filter(|&&code| code != 0).count();
+    let mut sizes = vec![chains.len() as u16];
+    sizes.extend(chains.iter().map(|chain| chain.borrow().len() as u16));
+    Lists {
+        sizes,
+        floats: UP.repeat(codes.len()),
+        limits: [-3.0, 3.0].repeat(joints),
+        codes,
+    }
+}
+
+impl Lists {
+    pub fn sheet(&self) -> Sheet<'_> {
+        Sheet {
+            sizes: &self.sizes,
+            codes: &self.codes,
+            floats: &self.floats,
+            limits: &self.limits,
+        }
+    }
+
+    pub fn spoiled(&self, spoil: impl FnOnce(&mut Self)) -> Self {
+        let mut lists = self.clone();
+        spoil(&mut lists);
+        lists
+    }
+}
