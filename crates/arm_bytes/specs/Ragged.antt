@@ -2,16 +2,13 @@
 -- joints and history 7, goals 8; a ragged output 9. Lower numbers come first, as ever.
 use mathlib.Core.Path.{_≡_, refl, ap, _∙_}
 use mathlib.Core.Bool.{Bool, true, false, cond, not, or-true}
-use mathlib.Core.Logic.{_⊎_, ⊎-elim}
 use mathlib.Core.List.{List, [], _∷_}
-use Prim.Native.Nat.{ℕ, suc, _*_, _/_, _%_, _≤_, _<_}
+use Prim.Native.Nat.{ℕ, suc, _*_, _%_, _≤_}
 use native.Mathlib.Omega.{arith}
 use lib.Dec.{eqb}
 use lib.Ieee.{Float}
 use lib.ListN.{length, getD}
 use borrow.Author.Tests.{ne-eqb, lt-ltb}
-use Rattle.lists.specs.Runs.{runs}
-use Rattle.lists.specs.Listed.{listed}
 use Rattle.sheet.specs.Chain.{total, chainStart, jointOf, joints, joint-mono, joint-last, chain-start-mono, chain-start-total, chainLength}
 use Rattle.refusals.specs.Lengths.{endsLength, historyLength, planLength, positions-sum, rotations-sum}
 use Rattle.refusals.specs.Lowest.{lowestFrom, lowest, firstOf, first-zero, first-is}

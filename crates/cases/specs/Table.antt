@@ -30,7 +30,6 @@ use Rattle.groove.specs.Vars.{resetOf, updateOf}
 use Rattle.groove.specs.Loss.{tenth, grooveLoss, scaledOf, powerOf, bOf, boundsPenalty, swampLoss, freeOf}
 use Rattle.self_collision.specs.Pairs.{pairsFrom, pairsOf, chainPairs, allPairs, chainLengths}
 use Rattle.objective_master.specs.Objective.{goalObjectives, limitObjective, motionObjectives, pairObjective, sourceList, objectives}
-use Rattle.sizing.specs.declared.plan.Plan.{Plan}
 use Rattle.sizing.specs.declared.plan.Sizing.the-variants.{Planned, Refused}
 use Rattle.sizing.specs.Sizing.{planOf, plannedIf, sizingOf}
 use Rattle.one_block.specs.Record.{copyOf, recordOf, againOf, jointEntry, linkEntry, poseEntry, recordJoints, recordLinks, recordPoses, againAt, againBelow, entriesOf}

@@ -119,14 +119,17 @@ pub number-room-within : (n : ℕ) → 2 * numberRoomIn n ≤ n
 unfolding numberRoomIn
 number-room-within n = number-room-most (eqb (n % 2) 0) n
 
--- k whole elements
+-- k whole elements of w bytes
+whole : (w k : ℕ) → (w * k) % w ≡ 0 → (w * k) / w ≡ k → cond (eqb ((w * k) % w) 0) ((w * k) / w) 0 ≡ k
+whole w k none all = rw (none, all)
+
 pub room-whole : (k : ℕ) → roomIn (8 * k) ≡ k
 unfolding roomIn
-room-whole k = let m : (8 * k) % 8 ≡ 0 = omega arith in let d : (8 * k) / 8 ≡ k = omega arith in rw (m, d)
+room-whole k = whole 8 k (omega arith) (omega arith)
 
 pub number-room-whole : (k : ℕ) → numberRoomIn (2 * k) ≡ k
 unfolding numberRoomIn
-number-room-whole k = let m : (2 * k) % 2 ≡ 0 = omega arith in let d : (2 * k) / 2 ≡ k = omega arith in rw (m, d)
+number-room-whole k = whole 2 k (omega arith) (omega arith)
 
 -- the first n of a list that was made by writing them at its front
 pub front : {A : Type 0} (xs ys zs : List A) (n : ℕ) → ys ≡ splice xs 0 zs → length zs ≡ n → take n ys ≡ zs

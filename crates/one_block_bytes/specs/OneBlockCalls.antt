@@ -4,7 +4,6 @@ use mathlib.Core.List.{List}
 use Prim.Native.Nat.{ℕ}
 use denote.Ref.{RefT, now}
 use lib.Ieee.{Float}
-use lib.ListN.{length}
 use Rattle.lists.specs.Splice.{splice}
 use Rattle.refusals.specs.Lengths.{slopesLength, valueLength}
 use Rattle.refusals.specs.Lowest.{firstOf}

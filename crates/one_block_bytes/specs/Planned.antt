@@ -7,14 +7,13 @@ use native.Mathlib.Omega.{arith}
 use lib.Ieee.{Float}
 use Rattle.refusals.specs.Lengths.{slopesLength, valueLength, recordPosesLength}
 use Rattle.refusals.specs.Lowest.{firstOf, first-zero, first-last, first-most}
-use Rattle.refusals.specs.Refusal.{chainsOf, linksOf, blockRefusal, historyRefusal, goalsRefusal, roomRefusal}
+use Rattle.refusals.specs.Refusal.{chainsOf, roomRefusal}
 use Rattle.refusals.specs.Passed.{load-most, block-most, history-most, goals-most, room-enough, room-behind}
 use Rattle.calls.specs.OneBlock.{recordRefusal}
 use Rattle.sizing.specs.Sizing.{planOf}
 use Rattle.sizing.specs.Planned.{RecordRoom, RecordShort, record-room, record-short}
 use Rattle.lent_bytes.specs.Lent.{roomIn, numberRoomIn, room-within, number-room-within, room-whole, number-room-whole}
 use Rattle.lent_bytes.specs.SheetLists.{SheetLists, same-three}
-use Rattle.arm_bytes.specs.ArmCalls.{loadNumber}
 use Rattle.arm_bytes.specs.Planned.{planIn}
 use Rattle.objective_bytes.specs.ObjectiveCalls.{taskNumber}
 use Rattle.one_block_bytes.specs.OneBlockCalls.{entriesIn, oneBlockNumber}

@@ -1,9 +1,9 @@
 -- What a plan promises of the calls on the state: `sizing` answered it for a sheet, and that sheet is loaded. With lists of the planned lengths no call answers
 -- 9 for them; one entry fewer in any of them, and it does, where no earlier refusal applies.
 use mathlib.Core.Path.{_≡_, refl, sym, ap, _∙_, subst}
-use mathlib.Core.Bool.{Bool, true, false, cond}
+use mathlib.Core.Bool.{Bool, true, false}
 use mathlib.Core.List.{List}
-use Prim.Native.Nat.{ℕ, _≤_, _<_}
+use Prim.Native.Nat.{ℕ, _≤_}
 use native.Mathlib.Omega.{arith}
 use lib.Dec.{eqb}
 use borrow.Author.Tests.{ne-eqb}

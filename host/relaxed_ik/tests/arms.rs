@@ -10,18 +10,10 @@ fn each_refusal_by_its_number() {
     let good = chains(&[&[13, 12, 0][..], &[31, 22]]);
     assert_eq!(good.sheet().load(), Ok(()));
     let nan = f64::NAN;
-    for (refusal, lists) in [
-        (Refusal::Sizes, good.spoiled(|l| l.sizes.clear())),
-        (Refusal::Sizes, good.spoiled(|l| l.sizes[1] = 17)),
-        (Refusal::Lengths, good.spoiled(|l| l.codes.truncate(4))),
-        (Refusal::Lengths, good.spoiled(|l| l.floats.truncate(34))),
-        (Refusal::Code, good.spoiled(|l| l.codes[0] = 37)),
-        (Refusal::Count, good.spoiled(|l| l.codes[0] = 0)),
-        (Refusal::Limits, good.spoiled(|l| l.limits[1] = -3.0)),
-        (Refusal::Limits, good.spoiled(|l| l.limits[0] = nan)),
-        (Refusal::Link, good.spoiled(|l| l.floats[2] = 10.5)),
-        (Refusal::Link, good.spoiled(|l| l.floats[3] = 0.9)),
-    ] {
+    let mut faults = good.faults();
+    faults.push((Refusal::Limits, good.spoiled(|l| l.limits[1] = -3.0)));
+    faults.push((Refusal::Limits, good.spoiled(|l| l.limits[0] = nan)));
+    for (refusal, lists) in faults {
         assert_eq!(lists.sheet().load(), Err(refusal));
     }
     let (lists, joints) = (good, [0.0; 4]);

@@ -48,16 +48,7 @@ fn limits_are_not_asked_for() {
 #[test]
 fn each_refusal_by_its_number() {
     let good = chains(&[vec![13, 12, 0], vec![31, 22]]);
-    for (refusal, lists) in [
-        (Refusal::Sizes, good.spoiled(|l| l.sizes.clear())),
-        (Refusal::Sizes, good.spoiled(|l| l.sizes[1] = 17)),
-        (Refusal::Lengths, good.spoiled(|l| l.codes.truncate(4))),
-        (Refusal::Lengths, good.spoiled(|l| l.floats.truncate(34))),
-        (Refusal::Code, good.spoiled(|l| l.codes[0] = 37)),
-        (Refusal::Count, good.spoiled(|l| l.codes[0] = 0)),
-        (Refusal::Link, good.spoiled(|l| l.floats[2] = 10.5)),
-        (Refusal::Link, good.spoiled(|l| l.floats[3] = f64::NAN)),
-    ] {
+    for (refusal, lists) in good.faults() {
         assert_eq!(lists.sheet().plan(), Err(refusal));
         assert_eq!(lists.sheet().load(), Err(refusal), "as at loading");
     }

@@ -1,6 +1,6 @@
 //! Sheets written by hand.
 
-use relaxed_ik::Sheet;
+use relaxed_ik::{Refusal, Sheet};
 use std::borrow::Borrow;
 
 const UP: [f64; 7] = [0.0, 0.0, 1.0, 1.0, 0.0, 0.0, 0.0];
@@ -36,6 +36,21 @@ impl Lists {
             floats: &self.floats,
             limits: &self.limits,
         }
+    }
+
+    /// One fault each, and the refusal that loading and sizing answer.
+    pub fn faults(&self) -> Vec<(Refusal, Self)> {
+        vec![
+            (Refusal::Sizes, self.spoiled(|l| l.sizes.clear())),
+            (Refusal::Sizes, self.spoiled(|l| l.sizes[1] = 17)),
+            (Refusal::Lengths, self.spoiled(|l| l.codes.truncate(4))),
+            (Refusal::Lengths, self.spoiled(|l| l.floats.truncate(34))),
+            (Refusal::Code, self.spoiled(|l| l.codes[0] = 37)),
+            (Refusal::Count, self.spoiled(|l| l.codes[0] = 0)),
+            (Refusal::Link, self.spoiled(|l| l.floats[2] = 10.5)),
+            (Refusal::Link, self.spoiled(|l| l.floats[3] = 0.9)),
+            (Refusal::Link, self.spoiled(|l| l.floats[3] = f64::NAN)),
+        ]
     }
 
     pub fn spoiled(&self, spoil: impl FnOnce(&mut Self)) -> Self {
