@@ -5,25 +5,15 @@ use Prim.Native.Nat.{ℕ, zero, suc}
 use native.Mathlib.Omega.{arith}
 use lib.Ieee.{Float}
 use Rattle.refusals.specs.Lengths.{endsLength, historyLength, valueLength, planLength}
-use Rattle.refusals.specs.Lowest.{firstOf, first-zero, first-some}
+use Rattle.refusals.specs.Lowest.{firstOf, first-assoc}
 use Rattle.refusals.specs.Refusal.{chainsOf, linksOf, sizingRefusal, blockRefusal, historyRefusal, roomRefusal}
 use Rattle.refusals.specs.Rows.{Row, firstRow, upFrom, IsLowest, lowest-row, loadRows, sizingRows, blockRow, historyRow, goalsRow, roomRow, block-row, history-row, goals-row, room-row, load-row, load-lowest, sizing-row, alone}
 use Rattle.calls.specs.Frames.{poseRefusal}
-use Rattle.calls.specs.Rows.{framesRows, poseRows, room-alone, frames-rows, pose-rows}
+use Rattle.calls.specs.Rows.{framesRows, poseRows, room-alone, block-then, frames-rows, pose-rows}
 use Rattle.lent_bytes.specs.SheetLists.{SheetLists}
 use Rattle.arm_bytes.specs.ArmCalls.{loadNumber, sizingNumber, setGoalsNumber, framesNumber, poseNumber, updateNumber, resetNumber, manipulabilityNumber}
 
-pub first-assoc : (a b c : ℕ) → firstOf (firstOf a b) c ≡ firstOf a (firstOf b c)
-first-assoc zero b c = ap (λ (n : ℕ). firstOf n c) (first-zero 0 b refl) ∙ sym (first-zero 0 (firstOf b c) refl)
-first-assoc (suc a) b c =
-    ap (λ (n : ℕ). firstOf n c) (first-some (suc a) b (λ z. omega arith)) ∙ first-some (suc a) c (λ z. omega arith)
-    ∙ sym (first-some (suc a) (firstOf b c) (λ z. omega arith))
-
--- a block's number before others
-pub block-then : (cs : List ℕ) (x : List Float) (k : ℕ) (rs : List Row) → k ≡ firstRow rs → firstOf (blockRefusal cs x) k ≡ firstRow (blockRow cs x ∷ rs)
-block-then cs x k rs e = ap (firstOf (blockRefusal cs x)) e ∙ block-row cs x rs
-
--- and a history's
+-- a history's number before others
 pub history-then : (cs : List ℕ) (h : List Float) (k : ℕ) (rs : List Row) → k ≡ firstRow rs → firstOf (historyRefusal cs h) k ≡ firstRow (historyRow cs h ∷ rs)
 history-then cs h k rs e = ap (firstOf (historyRefusal cs h)) e ∙ history-row cs h rs
 

@@ -6,3 +6,4 @@ pub mod AcceptedTask
 pub mod OneBlock
 pub mod Rows
 pub mod Agree
+pub mod Weights

@@ -1,10 +1,10 @@
--- The cases that document 01 marks P, and some of its refusals, each computed from the definitions; what sizing answers among them.
+-- The cases that document 01 marks P, and some of its refusals, each computed from the definitions; what sizing answers and which weights are taken among them.
 use mathlib.Core.Path.{_≡_, refl}
 use mathlib.Core.Bool.{false}
-use mathlib.Core.List.{List, [], _∷_, _++_}
+use mathlib.Core.List.{List, [], _∷_, _++_, map}
 use Prim.Native.Nat.{ℕ, zero, suc}
 use lib.IntN.{negsuc}
-use lib.Ieee.{Float, fin, binary64, add, sub, mul, div, neg, eq, ne, lt, le, ofInt, ofBits}
+use lib.Ieee.{Float, nan, fin, binary64, add, sub, mul, div, neg, eq, ne, lt, le, ofInt, ofBits}
 use lib.ListN.{length, replicate}
 use Rattle.lists.specs.Runs.{runs}
 use Rattle.lists.specs.Listed.{listed}
@@ -29,6 +29,8 @@ use Rattle.spacetime.specs.Frames.{positionAt, rotationAt, positionsFrom, rotat
 use Rattle.groove.specs.Vars.{resetOf, updateOf}
 use Rattle.groove.specs.Loss.{tenth, grooveLoss, scaledOf, powerOf, bOf, boundsPenalty, swampLoss, freeOf}
 use Rattle.self_collision.specs.Pairs.{pairsFrom, pairsOf, chainPairs, allPairs, chainLengths}
+use Rattle.objective_master.specs.Objective.{MatchEEPosiDoF, MatchEERotaDoF, EachJointLimits, MinimizeVelocity, MinimizeAcceleration, MinimizeJerk, MaximizeManipulability, SelfCollision}
+use Rattle.objective_master.specs.Weights.{kindNumber, weightOf}
 use Rattle.objective_master.specs.Objective.{goalObjectives, limitObjective, motionObjectives, pairObjective, sourceList, objectives}
 use Rattle.sizing.specs.declared.plan.Sizing.the-variants.{Planned, Refused}
 use Rattle.sizing.specs.Sizing.{planOf, plannedIf, sizingOf}
@@ -36,7 +38,7 @@ use Rattle.one_block.specs.Record.{copyOf, recordOf, againOf, jointEntry, linkE
 use Rattle.refusals.specs.Range.{every, between, within, withinAt, squaresOf, nearOne, unitAt}
 use Rattle.refusals.specs.Lowest.{lowestFrom, lowest}
 use Rattle.refusals.specs.Lengths.{positionsLength, rotationsLength}
-use Rattle.refusals.specs.Refusal.{linksFit, badSizes, badLengths, listedKind, listedCode, listedAt, badCodes, twoJoints, laterFits, badJoints, rangedPair, pairFits, limitsFit, badLimits, linkFits, badFloats, loadRefusal, sizingRefusal, jointFits, valueFits, linkValueFits, eight, blockFits, badBlock, blockRefusal}
+use Rattle.refusals.specs.Refusal.{linksFit, badSizes, badLengths, listedKind, listedCode, listedAt, badCodes, twoJoints, laterFits, badJoints, rangedPair, pairFits, limitsFit, badLimits, linkFits, badFloats, loadRefusal, sizingRefusal, jointFits, valueFits, linkValueFits, eight, blockFits, badBlock, blockRefusal, weightFits, weightFitsAt, badWeights, weightsRefusal}
 
 -- the point z above the origin, and the rotation that does not turn, as floats
 abbrev high : Float → List Float
@@ -65,6 +67,9 @@ turning n = replicate n 13
 -- a joint without limits
 abbrev free : List Float
 free = neg (ofBits binary64 0x408f_3800_0000_0000) ∷ ofBits binary64 0x408f_3800_0000_0000 ∷ []
+
+abbrev thousand : Float
+thousand = ofBits binary64 0x408f_4000_0000_0000
 
 -- a robot of one chain of two links
 abbrev pair : List ℕ
@@ -128,6 +133,19 @@ pub record Cases : Type 0 where
   pub one-joint : loadRefusal (1 ∷ 1 ∷ []) (13 ∷ []) up free ≡ 4
   pub one-joint-sized : sizingOf (1 ∷ 1 ∷ []) (13 ∷ []) up ≡ Refused 4
   pub two-joints : loadRefusal (1 ∷ 2 ∷ []) (13 ∷ 13 ∷ []) (up ++ up) (free ++ free) ≡ 0
+  -- eight weights are taken, -0.0 and 1000 among them; none, seven and nine are refused
+  pub weights-taken : weightsRefusal (neg nought ∷ thousand ∷ replicate 6 one) ≡ 0
+  pub weights-none : weightsRefusal [] ≡ 10
+  pub weights-seven : weightsRefusal (replicate 7 one) ≡ 10
+  pub weights-nine : weightsRefusal (replicate 9 one) ≡ 10
+  -- so are the next float above 1000, the next below 0, and a NaN
+  pub weights-above : weightsRefusal (ofBits binary64 0x408f_4000_0000_0001 ∷ replicate 7 one) ≡ 10
+  pub weights-below : weightsRefusal (ofBits binary64 0x8000_0000_0000_0001 ∷ replicate 7 one) ≡ 10
+  pub weights-nan : weightsRefusal (nan ∷ replicate 7 one) ≡ 10
+  -- each kind has its own: position, rotation, limits, velocity, acceleration, jerk, manipulability, pairs
+  pub weights-by-kind : (p r l v a j m c : Float) → map (weightOf (p ∷ r ∷ l ∷ v ∷ a ∷ j ∷ m ∷ c ∷ []))
+      (MatchEEPosiDoF 0 0 ∷ MatchEERotaDoF 0 0 ∷ EachJointLimits 0 ∷ MinimizeVelocity ∷ MinimizeAcceleration ∷ MinimizeJerk ∷ MaximizeManipulability ∷ SelfCollision 0 0 0 ∷ [])
+      ≡ p ∷ r ∷ l ∷ v ∷ a ∷ j ∷ m ∷ c ∷ []
 
 -- the poses are left as they are, and only the record around them is computed
 poses-walked : (gs x : List Float) → recordPoses four between-fixed gs x
@@ -138,7 +156,7 @@ poses-walked gs x = refl
 
 -- All of them, by computing both sides.
 pub cases : Cases
-unfolding recordJoints recordLinks recordOf againOf jointEntry linkEntry againAt againBelow entriesOf endIn objectives goalObjectives limitObjective motionObjectives pairObjective allPairs chainPairs pairsOf pairsFrom grooveLoss swampLoss scaledOf boundsPenalty powerOf bOf power20Of squarings expOf expSeriesOf expTermOf positionsOf rotationsOf chainPositions chainRotations positionsFrom rotationsFrom positionAt rotationAt runs poseOf beforeOf startOf afterLink valueOf linkOf isNone offsetOf signedBy alongOf turnOf jointTurn aboutOf turnedBy carriedOf slideOf slidOf movedOf vecAt quatAt flatVec flatQuat firstIn total chainStart hasJoint jointsOf jointOf joints kindAt kindOf originOf zeroOf identityOf productOf axisOf twiceOf rotateOf quatZOf sineOf cosineOf seriesOf termOf sineDivisor cosineDivisor downFrom rootOf distanceOf pointOf closestOf endedOf innerOf addOf subOf scaleOf dotOf crossOf normOf cutOf blockRefusal jointFits valueFits linkValueFits blockFits badBlock every between within withinAt squaresOf nearOne unitAt freeOf rangedPair pairFits limitsFit badLimits linkFits badFloats loadRefusal lowest lowestFrom badSizes linksFit badLengths badCodes listedAt listedCode listedKind badJoints twoJoints laterFits chainLength add sub mul div neg eq ne lt le ofInt ofBits sizingOf plannedIf planOf sizingRefusal positionsLength rotationsLength chainLengths listed
+unfolding recordJoints recordLinks recordOf againOf jointEntry linkEntry againAt againBelow entriesOf endIn objectives goalObjectives limitObjective motionObjectives pairObjective allPairs chainPairs pairsOf pairsFrom grooveLoss swampLoss scaledOf boundsPenalty powerOf bOf power20Of squarings expOf expSeriesOf expTermOf positionsOf rotationsOf chainPositions chainRotations positionsFrom rotationsFrom positionAt rotationAt runs poseOf beforeOf startOf afterLink valueOf linkOf isNone offsetOf signedBy alongOf turnOf jointTurn aboutOf turnedBy carriedOf slideOf slidOf movedOf vecAt quatAt flatVec flatQuat firstIn total chainStart hasJoint jointsOf jointOf joints kindAt kindOf originOf zeroOf identityOf productOf axisOf twiceOf rotateOf quatZOf sineOf cosineOf seriesOf termOf sineDivisor cosineDivisor downFrom rootOf distanceOf pointOf closestOf endedOf innerOf addOf subOf scaleOf dotOf crossOf normOf cutOf blockRefusal jointFits valueFits linkValueFits blockFits badBlock every between within withinAt squaresOf nearOne unitAt freeOf rangedPair pairFits limitsFit badLimits linkFits badFloats loadRefusal lowest lowestFrom badSizes linksFit badLengths badCodes listedAt listedCode listedKind badJoints twoJoints laterFits chainLength weightsRefusal badWeights weightFitsAt weightFits weightOf kindNumber add sub mul div neg eq ne lt le ofInt ofBits sizingOf plannedIf planOf sizingRefusal positionsLength rotationsLength chainLengths listed
 cases = record {
   groove-centre = refl;
   swamp-centre = refl;
@@ -163,4 +181,12 @@ cases = record {
   one-joint = refl;
   one-joint-sized = refl;
   two-joints = refl;
+  weights-taken = refl;
+  weights-none = refl;
+  weights-seven = refl;
+  weights-nine = refl;
+  weights-above = refl;
+  weights-below = refl;
+  weights-nan = refl;
+  weights-by-kind = λ p r l v a j m c. refl;
 }

@@ -1,9 +1,17 @@
 // The calls on the objective, as little-endian bytes. The answer is the refusal's number, 0 where the call is accepted.
 use objective_bytes::objectives;
 ghost use mathlib.Core.Path.{_≡_};
-ghost use Rattle.lent_bytes.specs.SheetLists.{sheetIn, blockIn, goalsIn, historyIn, roomOf};
+ghost use Rattle.lent_bytes.specs.SheetLists.{sheetIn, blockIn, roomOf};
 ghost use Rattle.arm_bytes.specs.ArmCalls.{outputOf};
-ghost use Rattle.objective_bytes.specs.ObjectiveCalls.{objectiveNumber, slopesNumber, objectiveValue, gradientSlopes, finiteDiffSlopes};
+ghost use Rattle.objective_bytes.specs.ObjectiveCalls.{weightsIn, taskIn, setWeightsNumber, objectiveNumber, slopesNumber, objectiveValue, gradientSlopes, finiteDiffSlopes};
+
+// Eight floats, each within 0..1000; no arms are asked for.
+#[no_mangle]
+pub extern "C" fn relaxed_ik_set_weights(weights: &[u8]) -> u32
+    ensures { λ r. ⌜ r ≡ setWeightsNumber (weightsIn weights) ⌝ }
+{
+    objectives::set_weights(weights)
+}
 
 #[no_mangle]
 pub extern "C" fn relaxed_ik_objective(
@@ -13,13 +21,24 @@ pub extern "C" fn relaxed_ik_objective(
     limits: &[u8],
     goals: &[u8],
     history: &[u8],
+    weights: &[u8],
     joints: &[u8],
     value: &mut [u8],
 ) -> u32
-    ensures number { λ r. ⌜ r ≡ objectiveNumber (sheetIn sizes codes floats limits) (goalsIn goals) (historyIn history) (blockIn joints) (roomOf value) ⌝ }
-    ensures value { λ r. ⌜ now (value .exit) ≡ outputOf r value (objectiveValue (sheetIn sizes codes floats limits) (goalsIn goals) (historyIn history) (blockIn joints)) ⌝ }
+    ensures number { λ r. ⌜ r ≡ objectiveNumber (sheetIn sizes codes floats limits) (taskIn goals history weights) (blockIn joints) (roomOf value) ⌝ }
+    ensures value { λ r. ⌜ now (value .exit) ≡ outputOf r value (objectiveValue (sheetIn sizes codes floats limits) (taskIn goals history weights) (blockIn joints)) ⌝ }
 {
-    objectives::objective(sizes, codes, floats, limits, goals, history, joints, value)
+    objectives::objective(
+        sizes,
+        codes,
+        floats,
+        limits,
+        goals,
+        history,
+        weights,
+        joints,
+        value,
+    )
 }
 
 // The joints are read; scratch gets them. The slopes are those by a step of 1e-7.
@@ -31,15 +50,16 @@ pub extern "C" fn relaxed_ik_gradient(
     limits: &[u8],
     goals: &[u8],
     history: &[u8],
+    weights: &[u8],
     joints: &[u8],
     scratch: &mut [u8],
     value: &mut [u8],
     slopes: &mut [u8],
 ) -> u32
-    ensures number { λ r. ⌜ r ≡ slopesNumber (sheetIn sizes codes floats limits) (goalsIn goals) (historyIn history) (blockIn joints) (roomOf scratch) (roomOf value) (roomOf slopes) ⌝ }
+    ensures number { λ r. ⌜ r ≡ slopesNumber (sheetIn sizes codes floats limits) (taskIn goals history weights) (blockIn joints) (roomOf scratch) (roomOf value) (roomOf slopes) ⌝ }
     ensures scratch { λ r. ⌜ now (scratch .exit) ≡ outputOf r scratch (blockIn joints) ⌝ }
-    ensures value { λ r. ⌜ now (value .exit) ≡ outputOf r value (objectiveValue (sheetIn sizes codes floats limits) (goalsIn goals) (historyIn history) (blockIn joints)) ⌝ }
-    ensures slopes { λ r. ⌜ now (slopes .exit) ≡ outputOf r slopes (gradientSlopes (sheetIn sizes codes floats limits) (goalsIn goals) (historyIn history) (blockIn joints)) ⌝ }
+    ensures value { λ r. ⌜ now (value .exit) ≡ outputOf r value (objectiveValue (sheetIn sizes codes floats limits) (taskIn goals history weights) (blockIn joints)) ⌝ }
+    ensures slopes { λ r. ⌜ now (slopes .exit) ≡ outputOf r slopes (gradientSlopes (sheetIn sizes codes floats limits) (taskIn goals history weights) (blockIn joints)) ⌝ }
 {
     objectives::gradient(
         sizes,
@@ -48,6 +68,7 @@ pub extern "C" fn relaxed_ik_gradient(
         limits,
         goals,
         history,
+        weights,
         joints,
         scratch,
         value,
@@ -64,15 +85,16 @@ pub extern "C" fn relaxed_ik_gradient_finite_diff(
     limits: &[u8],
     goals: &[u8],
     history: &[u8],
+    weights: &[u8],
     joints: &[u8],
     scratch: &mut [u8],
     value: &mut [u8],
     slopes: &mut [u8],
 ) -> u32
-    ensures number { λ r. ⌜ r ≡ slopesNumber (sheetIn sizes codes floats limits) (goalsIn goals) (historyIn history) (blockIn joints) (roomOf scratch) (roomOf value) (roomOf slopes) ⌝ }
+    ensures number { λ r. ⌜ r ≡ slopesNumber (sheetIn sizes codes floats limits) (taskIn goals history weights) (blockIn joints) (roomOf scratch) (roomOf value) (roomOf slopes) ⌝ }
     ensures scratch { λ r. ⌜ now (scratch .exit) ≡ outputOf r scratch (blockIn joints) ⌝ }
-    ensures value { λ r. ⌜ now (value .exit) ≡ outputOf r value (objectiveValue (sheetIn sizes codes floats limits) (goalsIn goals) (historyIn history) (blockIn joints)) ⌝ }
-    ensures slopes { λ r. ⌜ now (slopes .exit) ≡ outputOf r slopes (finiteDiffSlopes (sheetIn sizes codes floats limits) (goalsIn goals) (historyIn history) (blockIn joints)) ⌝ }
+    ensures value { λ r. ⌜ now (value .exit) ≡ outputOf r value (objectiveValue (sheetIn sizes codes floats limits) (taskIn goals history weights) (blockIn joints)) ⌝ }
+    ensures slopes { λ r. ⌜ now (slopes .exit) ≡ outputOf r slopes (finiteDiffSlopes (sheetIn sizes codes floats limits) (taskIn goals history weights) (blockIn joints)) ⌝ }
 {
     objectives::gradient_finite_diff(
         sizes,
@@ -81,6 +103,7 @@ pub extern "C" fn relaxed_ik_gradient_finite_diff(
         limits,
         goals,
         history,
+        weights,
         joints,
         scratch,
         value,

@@ -1,9 +1,9 @@
 // The gradient on one block, as little-endian bytes. The answer is the refusal's number, 0 where the call is accepted.
 use one_block_bytes::slopes as bytes;
 ghost use mathlib.Core.Path.{_≡_};
-ghost use Rattle.lent_bytes.specs.SheetLists.{sheetIn, blockIn, goalsIn, historyIn, roomOf, numberRoomOf};
+ghost use Rattle.lent_bytes.specs.SheetLists.{sheetIn, blockIn, roomOf, numberRoomOf};
 ghost use Rattle.arm_bytes.specs.ArmCalls.{outputOf};
-ghost use Rattle.objective_bytes.specs.ObjectiveCalls.{objectiveValue, gradientSlopes};
+ghost use Rattle.objective_bytes.specs.ObjectiveCalls.{taskIn, objectiveValue, gradientSlopes};
 ghost use Rattle.one_block_bytes.specs.OneBlockCalls.{oneBlockNumber, RecordWritten};
 
 // The joints are only read. The slopes are those by a step of 1e-7; the record has the joint raised, the link, and the pose after it.
@@ -15,6 +15,7 @@ pub extern "C" fn relaxed_ik_gradient_one_block(
     limits: &[u8],
     goals: &[u8],
     history: &[u8],
+    weights: &[u8],
     joints: &[u8],
     value: &mut [u8],
     slopes: &mut [u8],
@@ -22,10 +23,10 @@ pub extern "C" fn relaxed_ik_gradient_one_block(
     record_links: &mut [u8],
     record_poses: &mut [u8],
 ) -> u32
-    ensures number { λ r. ⌜ r ≡ oneBlockNumber (sheetIn sizes codes floats limits) (goalsIn goals) (historyIn history) (blockIn joints)
+    ensures number { λ r. ⌜ r ≡ oneBlockNumber (sheetIn sizes codes floats limits) (taskIn goals history weights) (blockIn joints)
         (roomOf value) (roomOf slopes) (numberRoomOf «record_joints») (numberRoomOf «record_links») (roomOf «record_poses») ⌝ }
-    ensures value { λ r. ⌜ now (value .exit) ≡ outputOf r value (objectiveValue (sheetIn sizes codes floats limits) (goalsIn goals) (historyIn history) (blockIn joints)) ⌝ }
-    ensures slopes { λ r. ⌜ now (slopes .exit) ≡ outputOf r slopes (gradientSlopes (sheetIn sizes codes floats limits) (goalsIn goals) (historyIn history) (blockIn joints)) ⌝ }
+    ensures value { λ r. ⌜ now (value .exit) ≡ outputOf r value (objectiveValue (sheetIn sizes codes floats limits) (taskIn goals history weights) (blockIn joints)) ⌝ }
+    ensures slopes { λ r. ⌜ now (slopes .exit) ≡ outputOf r slopes (gradientSlopes (sheetIn sizes codes floats limits) (taskIn goals history weights) (blockIn joints)) ⌝ }
     ensures record { λ r. ⌜ RecordWritten r (sheetIn sizes codes floats limits) (blockIn joints) «record_joints» «record_links» «record_poses» ⌝ }
 {
     bytes::gradient_one_block(
@@ -35,6 +36,7 @@ pub extern "C" fn relaxed_ik_gradient_one_block(
         limits,
         goals,
         history,
+        weights,
         joints,
         value,
         slopes,

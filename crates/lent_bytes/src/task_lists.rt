@@ -1,4 +1,4 @@
-// What the calls on the objective are lent beside the sheet, decoded in one place.
+// Goals, history and joints, which the calls on the objective are lent beside the sheet, decoded in one place.
 use crate::lent;
 ghost use Rattle.lent_bytes.specs.SheetLists.{TaskHeld, goalsIn, historyIn, blockIn};
 

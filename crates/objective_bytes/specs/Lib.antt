@@ -1,4 +1,5 @@
 pub mod ObjectiveCalls
 pub mod ObjectiveLaws
 pub mod Numbers
+pub mod Weights
 pub mod Ragged

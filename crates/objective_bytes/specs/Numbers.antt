@@ -5,14 +5,14 @@ use Prim.Native.Nat.{ℕ}
 use lib.Ieee.{Float}
 use Rattle.sheet.specs.Chain.{joints}
 use Rattle.refusals.specs.Lengths.{scratchLength, slopesLength, valueLength}
-use Rattle.refusals.specs.Lowest.{firstOf}
-use Rattle.refusals.specs.Refusal.{chainsOf, blockRefusal, historyRefusal, goalsRefusal, roomRefusal}
-use Rattle.refusals.specs.Rows.{Row, firstRow, upFrom, IsLowest, lowest-row, blockRow, historyRow, goalsRow, roomRow, goals-row, room-row}
-use Rattle.calls.specs.Rows.{room-alone}
+use Rattle.refusals.specs.Lowest.{firstOf, first-assoc}
+use Rattle.refusals.specs.Refusal.{chainsOf, blockRefusal, historyRefusal, goalsRefusal}
+use Rattle.refusals.specs.Rows.{Row, firstRow, upFrom, IsLowest, lowest-row, blockRow, historyRow, goalsRow, roomRow, weightsRow, goals-row}
+use Rattle.calls.specs.Rows.{block-then, room-then, weights-alone}
 use Rattle.lent_bytes.specs.SheetLists.{SheetLists}
 use Rattle.arm_bytes.specs.ArmCalls.{loadNumber}
-use Rattle.arm_bytes.specs.Numbers.{first-assoc, block-then, history-then, sheetRows, after-load}
-use Rattle.objective_bytes.specs.ObjectiveCalls.{taskNumber, objectiveNumber, slopesNumber}
+use Rattle.arm_bytes.specs.Numbers.{history-then, sheetRows, after-load}
+use Rattle.objective_bytes.specs.ObjectiveCalls.{TaskLists, taskNumber, objectiveNumber, slopesNumber}
 
 module _ (s : SheetLists) (goals history x : List Float) where
   -- the conditions of sheet, joints, history and goals, 1 to 8, before a call's own
@@ -30,17 +30,17 @@ module _ (s : SheetLists) (goals history x : List Float) where
       (first-assoc (firstOf a b) g n ∙ first-assoc a b (firstOf g n)
       ∙ block-then (s .codes) x _ _ (history-then (s .codes) history _ _ (ap (firstOf g) e ∙ goals-row (chainsOf (s .sizes)) goals rs)))
 
-  pub objective-number-lowest : (value : ℕ) → IsLowest (taskRows (roomRow valueLength value ∷ [])) (objectiveNumber s goals history x value)
+module _ (s : SheetLists) (t : TaskLists) (x : List Float) where
+  pub objective-number-lowest : (value : ℕ) → IsLowest (taskRows s (t .goals) (t .history) x (roomRow valueLength value ∷ weightsRow (t .weights) ∷ [])) (objectiveNumber s t x value)
   unfolding objectiveNumber upFrom
-  objective-number-lowest value = lowest-row _ _ refl (task-then _ _ (room-alone valueLength value))
+  objective-number-lowest value = lowest-row _ _ refl (task-then s (t .goals) (t .history) x _ _ (room-then valueLength value _ _ (weights-alone (t .weights))))
 
   pub slopes-number-lowest : (scratch value slopes : ℕ)
-      → IsLowest (taskRows (roomRow (scratchLength (s .codes)) scratch ∷ roomRow valueLength value ∷ roomRow (slopesLength (s .codes)) slopes ∷ [])) (slopesNumber s goals history x scratch value slopes)
+      → IsLowest (taskRows s (t .goals) (t .history) x (roomRow (scratchLength (s .codes)) scratch ∷ roomRow valueLength value ∷ roomRow (slopesLength (s .codes)) slopes ∷ weightsRow (t .weights) ∷ []))
+      (slopesNumber s t x scratch value slopes)
   unfolding slopesNumber upFrom
   slopes-number-lowest scratch value slopes =
       let k = joints (s .codes) in
       lowest-row _ _ refl
-      (task-then _ _
-      (ap (λ (n : ℕ). firstOf (roomRefusal k scratch) (firstOf (roomRefusal valueLength value) n)) (room-alone k slopes)
-      ∙ ap (firstOf (roomRefusal k scratch)) (room-row valueLength value (roomRow k slopes ∷ []))
-      ∙ room-row k scratch (roomRow valueLength value ∷ roomRow k slopes ∷ [])))
+      (task-then s (t .goals) (t .history) x _ _
+      (room-then k scratch _ _ (room-then valueLength value _ _ (room-then k slopes _ _ (weights-alone (t .weights))))))

@@ -1,66 +1,108 @@
--- The byte calls on the objective: their numbers and what they write. They keep no state, so sheet, goals and history are lent each time.
+-- The byte calls on the objective: their numbers and what they write. They keep no state, so sheet, goals, history and weights are lent each time.
+use mathlib.Core.Bool.{not}
 use mathlib.Core.List.{List, [], _∷_}
 use Prim.Native.Nat.{ℕ, _*_}
+use lib.Dec.{eqb}
 use lib.Ieee.{Float}
+use lib.ListN.{length}
+use Rattle.lists.specs.Lent.{LentList, lent}
 use Rattle.sheet.specs.Chain.{joints}
 use Rattle.task.specs.Task.{part, Given}
 use Rattle.refusals.specs.Lengths.{scratchLength, slopesLength, valueLength}
 use Rattle.refusals.specs.Lowest.{firstOf}
-use Rattle.refusals.specs.Refusal.{chainsOf, linksOf, blockRefusal, historyRefusal, goalsRefusal, roomRefusal}
-use Rattle.objective_master.specs.Weights.{weightPriors}
+use Rattle.refusals.specs.Refusal.{chainsOf, linksOf, blockRefusal, historyRefusal, goalsRefusal, roomRefusal, weightsRefusal}
+use Rattle.objective_master.specs.Weights.{inForce}
 use Rattle.gradient.specs.Gradient.{valueAt, slopesOf}
 use Rattle.gradient.specs.declared.slopes.Rule.{Rule}
 use Rattle.gradient.specs.declared.slopes.Rule.the-variants.{EachLoss, WeightedSum}
-use Rattle.lent_bytes.specs.SheetLists.{SheetLists}
+use Rattle.lent_bytes.specs.Lent.{floatsIn}
+use Rattle.lent_bytes.specs.SheetLists.{SheetLists, goalsFrom, historyFrom}
 use Rattle.arm_bytes.specs.ArmCalls.{loadNumber}
 
+-- ---- what the calls are lent beside the sheet and the joints
+-- weights as bytes; a ragged list, and one of more than eight, has no floats, which are not eight
+abbrev pub weightsFrom : List ℕ → List Float
+weightsFrom weights = floatsIn 8 weights
+
+-- the weights in force: a list without a byte is none loaded
+unfoldable pub inForceFrom : List ℕ → List Float
+inForceFrom weights = inForce (not (eqb (length weights) 0)) (weightsFrom weights)
+
+-- goals, a history of four joint blocks, and the weights in force
+pub record TaskLists : Type 0 where
+  pub goals : List Float
+  pub history : List Float
+  pub weights : List Float
+
+abbrev pub taskWith : List Float → List Float → List Float → TaskLists
+taskWith goals history weights = record { goals = goals; history = history; weights = weights }
+
+-- as decoded lists
+abbrev pub taskOf : {X Y Z : Type 0} → LentList Float X → LentList Float Y → LentList Float Z → TaskLists
+taskOf goals history weights = taskWith (lent goals) (lent history) (lent weights)
+
+-- as bytes
+abbrev pub taskFrom : List ℕ → List ℕ → List ℕ → TaskLists
+taskFrom goals history weights = taskWith (goalsFrom goals) (historyFrom history) (inForceFrom weights)
+
+abbrev pub taskIn : {X Y Z : Type 0} → LentList ℕ X → LentList ℕ Y → LentList ℕ Z → TaskLists
+taskIn goals history weights = taskFrom (lent goals) (lent history) (lent weights)
+
+abbrev pub weightsIn : {X : Type 0} → LentList ℕ X → List Float
+weightsIn weights = weightsFrom (lent weights)
+
 -- ---- the numbers: those of loading, 1 to 6, then the call's own; 0 is accepted. Rooms are in floats.
+-- setting weights, which asks for no sheet: 10
+abbrev pub setWeightsNumber : List Float → ℕ
+setWeightsNumber weights = weightsRefusal weights
+
 -- joints x, a history of four joint blocks, and goals: 7 for either of the blocks, then 8
 unfoldable pub taskNumber : SheetLists → List Float → List Float → List Float → ℕ
 taskNumber s goals history x =
     firstOf (loadNumber s)
     (firstOf (firstOf (blockRefusal (s .codes) x) (historyRefusal (s .codes) history)) (goalsRefusal (chainsOf (s .sizes)) goals))
 
--- the objective: then 9 for an output without room for one float
-unfoldable pub objectiveNumber : SheetLists → List Float → List Float → List Float → ℕ → ℕ
-objectiveNumber s goals history x value = firstOf (taskNumber s goals history x) (roomRefusal valueLength value)
+-- the objective: then 9 for an output without room for one float, then 10
+unfoldable pub objectiveNumber : SheetLists → TaskLists → List Float → ℕ → ℕ
+objectiveNumber s t x value = firstOf (taskNumber s (t .goals) (t .history) x) (firstOf (roomRefusal valueLength value) (weightsRefusal (t .weights)))
 
--- a gradient: then 9 for any of its outputs
-unfoldable pub slopesNumber : SheetLists → List Float → List Float → List Float → ℕ → ℕ → ℕ → ℕ
-slopesNumber s goals history x scratch value slopes =
-    firstOf (taskNumber s goals history x)
-    (firstOf (roomRefusal (scratchLength (s .codes)) scratch) (firstOf (roomRefusal valueLength value) (roomRefusal (slopesLength (s .codes)) slopes)))
+-- a gradient: then 9 for any of its outputs, then 10
+unfoldable pub slopesNumber : SheetLists → TaskLists → List Float → ℕ → ℕ → ℕ → ℕ
+slopesNumber s t x scratch value slopes =
+    firstOf (taskNumber s (t .goals) (t .history) x)
+    (firstOf (roomRefusal (scratchLength (s .codes)) scratch)
+    (firstOf (roomRefusal valueLength value) (firstOf (roomRefusal (slopesLength (s .codes)) slopes) (weightsRefusal (t .weights)))))
 
 -- ---- what they write, in floats
--- what the objective is given: the built-in weights, and the history's blocks xopt, prev_state and prev_state2; the fourth is not read
-unfoldable pub givenLent : SheetLists → List Float → List Float → Given
-givenLent s goals history =
+-- what the objective is given: of the history its blocks xopt, prev_state and prev_state2; the fourth is not read
+unfoldable pub givenLent : SheetLists → TaskLists → Given
+givenLent s t =
     record {
       counts = linksOf (s .sizes);
       codes = s .codes;
-      weights = weightPriors;
+      weights = t .weights;
       limits = s .limits;
-      goals = goals;
-      xopt = part 0 (joints (s .codes)) history;
-      «prev_state» = part (joints (s .codes)) (joints (s .codes)) history;
-      «prev_state2» = part (2 * joints (s .codes)) (joints (s .codes)) history;
+      goals = t .goals;
+      xopt = part 0 (joints (s .codes)) (t .history);
+      «prev_state» = part (joints (s .codes)) (joints (s .codes)) (t .history);
+      «prev_state2» = part (2 * joints (s .codes)) (joints (s .codes)) (t .history);
     }
 
 -- the objective's value at block x
-unfoldable pub valueIn : SheetLists → List Float → List Float → List Float → Float
-valueIn s goals history x = valueAt (givenLent s goals history) (s .floats) x
+unfoldable pub valueIn : SheetLists → TaskLists → List Float → Float
+valueIn s t x = valueAt (givenLent s t) (s .floats) x
 
 -- as one float
-abbrev pub objectiveValue : SheetLists → List Float → List Float → List Float → List Float
-objectiveValue s goals history x = valueIn s goals history x ∷ []
+abbrev pub objectiveValue : SheetLists → TaskLists → List Float → List Float
+objectiveValue s t x = valueIn s t x ∷ []
 
 -- the slopes along the joints, by either rule
-unfoldable pub slopesIn : Rule → SheetLists → List Float → List Float → List Float → List Float
-slopesIn rule s goals history x = slopesOf rule (givenLent s goals history) (s .floats) x
+unfoldable pub slopesIn : Rule → SheetLists → TaskLists → List Float → List Float
+slopesIn rule s t x = slopesOf rule (givenLent s t) (s .floats) x
 
 -- by steps of 1e-7 and of 1e-6
-abbrev pub gradientSlopes : SheetLists → List Float → List Float → List Float → List Float
-gradientSlopes s goals history x = slopesIn EachLoss s goals history x
+abbrev pub gradientSlopes : SheetLists → TaskLists → List Float → List Float
+gradientSlopes s t x = slopesIn EachLoss s t x
 
-abbrev pub finiteDiffSlopes : SheetLists → List Float → List Float → List Float → List Float
-finiteDiffSlopes s goals history x = slopesIn WeightedSum s goals history x
+abbrev pub finiteDiffSlopes : SheetLists → TaskLists → List Float → List Float
+finiteDiffSlopes s t x = slopesIn WeightedSum s t x

@@ -10,9 +10,8 @@ use Rattle.sheet.specs.Chain.{joints}
 use Rattle.task.specs.Task.{part, taskLength, givenOf, part-length}
 use Rattle.task.specs.Laid.{Apart, apartIn, laid, Fit, Full, givenApart, laid-given}
 use Rattle.refusals.specs.Lowest.{first-none}
-use Rattle.refusals.specs.Refusal.{linksOf}
-use Rattle.refusals.specs.Passed.{load-passed, block-passed, history-passed, goals-passed}
-use Rattle.objective_master.specs.Weights.{weightPriors, weights-eight}
+use Rattle.refusals.specs.Refusal.{linksOf, weightsRefusal}
+use Rattle.refusals.specs.Passed.{load-passed, block-passed, history-passed, goals-passed, weights-passed}
 use Rattle.gradient.specs.Gradient.{slopes-length}
 use Rattle.gradient.specs.Ready.{Ready}
 use Rattle.gradient.specs.declared.slopes.Rule.{Rule}
@@ -20,57 +19,63 @@ use Rattle.calls.specs.AcceptedTask.{ready-of, load-task}
 use Rattle.lent_bytes.specs.Lent.{roomIn}
 use Rattle.lent_bytes.specs.SheetLists.{SheetLists, same-two, same-three}
 use Rattle.arm_bytes.specs.ArmLaws.{bytes-fit}
-use Rattle.objective_bytes.specs.ObjectiveCalls.{taskNumber, slopesNumber, givenLent, slopesIn}
+use Rattle.objective_bytes.specs.ObjectiveCalls.{TaskLists, taskNumber, slopesNumber, givenLent, slopesIn}
 
--- what a call knows whose sheet, joints, history and goals are accepted
-pub record Taken (s : SheetLists) (goals history x : List Float) : Type 0 where
+-- nothing but an output is left to refuse
+abbrev pub Passed : SheetLists → TaskLists → List Float → Type 0
+Passed s t x = (taskNumber s (t .goals) (t .history) x ≡ 0) × (weightsRefusal (t .weights) ≡ 0)
+
+-- what a call then knows
+pub record Taken (s : SheetLists) (t : TaskLists) (x : List Float) : Type 0 where
   pub block : length x ≡ joints (s .codes)
   pub few : joints (s .codes) ≤ 16
-  pub blocks : length history ≡ 4 * joints (s .codes)
+  pub blocks : length (t .history) ≡ 4 * joints (s .codes)
   pub pairs : length (s .limits) ≡ 2 * joints (s .codes)
-  pub each : length goals ≡ 13 * length (linksOf (s .sizes))
+  pub each : length (t .goals) ≡ 13 * length (linksOf (s .sizes))
+  pub eight : length (t .weights) ≡ 8
   pub chains : length (linksOf (s .sizes)) ≤ 4
   pub ready : (task : List Float) → length task ≡ taskLength → Ready (linksOf (s .sizes)) (s .codes) task (s .floats) x
 
-pub task-taken : (s : SheetLists) (goals history x : List Float) → taskNumber s goals history x ≡ 0 → Taken s goals history x
+pub task-taken : (s : SheetLists) (t : TaskLists) (x : List Float) → Passed s t x → Taken s t x
 unfolding taskNumber
-task-taken s goals history x e =
-    let a = first-none _ _ e in
+task-taken s t x p =
+    let a = first-none _ _ (p .0) in
     let b = first-none _ _ (a .1) in
     let d = first-none _ _ (b .0) in
     let l = load-passed (s .sizes) (s .codes) (s .floats) (s .limits) (a .0) in
     record {
       block = block-passed (s .codes) x (d .0);
       few = l .0 .moving;
-      blocks = history-passed (s .codes) history (d .1);
+      blocks = history-passed (s .codes) (t .history) (d .1);
       pairs = l .1;
-      each = goals-passed _ goals (b .1) ∙ ap (λ (n : ℕ). 13 * n) (sym (l .0 .sized .long));
+      each = goals-passed _ (t .goals) (b .1) ∙ ap (λ (n : ℕ). 13 * n) (sym (l .0 .sized .long));
+      eight = weights-passed (t .weights) (p .1);
       chains = omega (arith, l .0 .sized .long, l .0 .sized .few);
       ready = λ task w. ready-of (linksOf (s .sizes)) (s .codes) task (s .floats) x (load-task (s .sizes) (s .codes) task (s .floats) w (s .limits) (a .0)) (d .0);
     }
 
 -- ---- the list that such a call lays
-module _ (s : SheetLists) (goals history x : List Float) (k : Taken s goals history x) where
+module _ (s : SheetLists) (t : TaskLists) (x : List Float) (k : Taken s t x) where
   abbrev N : ℕ
   N = joints (s .codes)
 
   abbrev lists : ℕ → Apart
-  lists n = apartIn weightPriors (s .limits) goals history n
+  lists n = apartIn (t .weights) (s .limits) (t .goals) (t .history) n
 
   -- the blocks of the history
-  block₀ : length (part 0 N history) ≡ N
-  block₀ = part-length 0 N history (omega (arith, k .blocks))
+  block₀ : length (part 0 N (t .history)) ≡ N
+  block₀ = part-length 0 N (t .history) (omega (arith, k .blocks))
 
-  block₁ : length (part N N history) ≡ N
-  block₁ = part-length N N history (omega (arith, k .blocks))
+  block₁ : length (part N N (t .history)) ≡ N
+  block₁ = part-length N N (t .history) (omega (arith, k .blocks))
 
-  block₂ : length (part (2 * N) N history) ≡ N
-  block₂ = part-length (2 * N) N history (omega (arith, k .blocks))
+  block₂ : length (part (2 * N) N (t .history)) ≡ N
+  block₂ = part-length (2 * N) N (t .history) (omega (arith, k .blocks))
 
   fit : Fit (lists N)
   fit =
       record {
-        weights = omega (arith, weights-eight);
+        weights = omega (arith, k .eight);
         limits = omega (arith, k .pairs, k .few);
         goals = omega (arith, k .each, k .chains);
         xopt = omega (arith, block₀, k .few);
@@ -81,7 +86,7 @@ module _ (s : SheetLists) (goals history x : List Float) (k : Taken s goals hist
   full : Full (linksOf (s .sizes)) (s .codes) (lists N)
   full =
       record {
-        weights = omega (arith, weights-eight);
+        weights = omega (arith, k .eight);
         limits = omega (arith, k .pairs);
         goals = omega (arith, k .each);
         xopt = omega (arith, block₀);
@@ -90,15 +95,15 @@ module _ (s : SheetLists) (goals history x : List Float) (k : Taken s goals hist
       }
 
   -- each list is lent as long as it is in use
-  apart-taken : givenApart (linksOf (s .sizes)) (s .codes) (lists N) ≡ givenLent s goals history
+  apart-taken : givenApart (linksOf (s .sizes)) (s .codes) (lists N) ≡ givenLent s t
   unfolding givenApart givenLent
   apart-taken =
-      let e₁ : take 8 weightPriors ≡ weightPriors = take-all 8 weightPriors (omega (arith, weights-eight)) in
+      let e₁ : take 8 (t .weights) ≡ t .weights = take-all 8 (t .weights) (omega (arith, k .eight)) in
       let e₂ : take (2 * N) (s .limits) ≡ s .limits = take-all (2 * N) (s .limits) (omega (arith, k .pairs)) in
-      let e₃ : take (13 * length (linksOf (s .sizes))) goals ≡ goals = take-all (13 * length (linksOf (s .sizes))) goals (omega (arith, k .each)) in
-      let e₄ : take N (part 0 N history) ≡ part 0 N history = take-all N (part 0 N history) (omega (arith, block₀)) in
-      let e₅ : take N (part N N history) ≡ part N N history = take-all N (part N N history) (omega (arith, block₁)) in
-      let e₆ : take N (part (2 * N) N history) ≡ part (2 * N) N history = take-all N (part (2 * N) N history) (omega (arith, block₂)) in
+      let e₃ : take (13 * length (linksOf (s .sizes))) (t .goals) ≡ t .goals = take-all (13 * length (linksOf (s .sizes))) (t .goals) (omega (arith, k .each)) in
+      let e₄ : take N (part 0 N (t .history)) ≡ part 0 N (t .history) = take-all N (part 0 N (t .history)) (omega (arith, block₀)) in
+      let e₅ : take N (part N N (t .history)) ≡ part N N (t .history) = take-all N (part N N (t .history)) (omega (arith, block₁)) in
+      let e₆ : take N (part (2 * N) N (t .history)) ≡ part (2 * N) N (t .history) = take-all N (part (2 * N) N (t .history)) (omega (arith, block₂)) in
       rw (e₁, e₂, e₃, e₄, e₅, e₆)
 
   -- as a call asks for it, which lays blocks as long as the joints
@@ -106,46 +111,47 @@ module _ (s : SheetLists) (goals history x : List Float) (k : Taken s goals hist
   fit-taken = subst (λ n. Fit (lists n)) (sym (k .block)) fit
 
   -- the objective finds in it what is lent
-  pub laid-taken : (ns : List ℕ) (t task : List Float) → ns ≡ linksOf (s .sizes) → length t ≡ taskLength → task ≡ laid (lists (length x)) t
-      → givenOf ns (s .codes) task ≡ givenLent s goals history
-  laid-taken ns t task e w h =
-      same-two (λ ns′ t′. givenOf ns′ (s .codes) t′) e (h ∙ ap (λ n. laid (lists n) t) (k .block))
-      ∙ laid-given (lists N) t w fit (linksOf (s .sizes)) (s .codes) full (k .chains) (k .few)
+  pub laid-taken : (ns : List ℕ) (old task : List Float) → ns ≡ linksOf (s .sizes) → length old ≡ taskLength → task ≡ laid (lists (length x)) old
+      → givenOf ns (s .codes) task ≡ givenLent s t
+  laid-taken ns old task e w h =
+      same-two (λ ns′ t′. givenOf ns′ (s .codes) t′) e (h ∙ ap (λ n. laid (lists n) old) (k .block))
+      ∙ laid-given (lists N) old w fit (linksOf (s .sizes)) (s .codes) full (k .chains) (k .few)
       ∙ apart-taken
 
   pub ready-taken : (ns : List ℕ) (task : List Float) → ns ≡ linksOf (s .sizes) → length task ≡ taskLength → Ready ns (s .codes) task (s .floats) x
   ready-taken ns task e w = subst (λ ns′. Ready ns′ (s .codes) task (s .floats) x) (sym e) (k .ready task w)
 
 -- as many slopes as joints
-pub slopes-in-length : (rule : Rule) (s : SheetLists) (goals history x : List Float) → length (slopesIn rule s goals history x) ≡ length x
+pub slopes-in-length : (rule : Rule) (s : SheetLists) (t : TaskLists) (x : List Float) → length (slopesIn rule s t x) ≡ length x
 unfolding slopesIn
-slopes-in-length rule s goals history x = slopes-length rule (givenLent s goals history) (s .floats) x
+slopes-in-length rule s t x = slopes-length rule (givenLent s t) (s .floats) x
 
 -- lists that are equal
 pub same-four : {A B C D E : Type 0} (f : A → B → C → D → E) {a a′ : A} {b b′ : B} {c c′ : C} {d d′ : D} → a ≡ a′ → b ≡ b′ → c ≡ c′ → d ≡ d′ → f a b c d ≡ f a′ b′ c′ d′
 same-four f {a′ = a′} {b′ = b′} {c′ = c′} {d = d} p q r t = same-three (λ a b c. f a b c d) p q r ∙ ap (f a′ b′ c′) t
 
 -- what a gradient knows that is accepted with outputs of so many bytes
-pub record Fitted (s : SheetLists) (goals history x : List Float) (a b d : ℕ) : Type 0 where
-  pub accepted : taskNumber s goals history x ≡ 0
+pub record Fitted (s : SheetLists) (t : TaskLists) (x : List Float) (a b d : ℕ) : Type 0 where
+  pub accepted : Passed s t x
   pub few : length x ≤ 16
   pub scratch : 8 * length x ≤ a
   pub value : 8 ≤ b
   pub slopes : 8 * length x ≤ d
 
-pub slopes-fitted : (s : SheetLists) (goals history x : List Float) (a b d : ℕ) → slopesNumber s goals history x (roomIn a) (roomIn b) (roomIn d) ≡ 0
-    → Fitted s goals history x a b d
+pub slopes-fitted : (s : SheetLists) (t : TaskLists) (x : List Float) (a b d : ℕ) → slopesNumber s t x (roomIn a) (roomIn b) (roomIn d) ≡ 0
+    → Fitted s t x a b d
 unfolding slopesNumber
-slopes-fitted s goals history x a b d e =
+slopes-fitted s t x a b d e =
     let n = joints (s .codes) in
     let p = first-none _ _ e in
     let q = first-none _ _ (p .1) in
     let r = first-none _ _ (q .1) in
-    let t : Taken s goals history x = task-taken s goals history x (p .0) in
+    let u = first-none _ _ (r .1) in
+    let k : Taken s t x = task-taken s t x (p .0, u .1) in
     record {
-      accepted = p .0;
-      few = omega (arith, t .block, t .few);
-      scratch = omega (arith, t .block, bytes-fit n a (roomIn a) refl (q .0));
+      accepted = (p .0, u .1);
+      few = omega (arith, k .block, k .few);
+      scratch = omega (arith, k .block, bytes-fit n a (roomIn a) refl (q .0));
       value = omega (arith, bytes-fit 1 b (roomIn b) refl (r .0));
-      slopes = omega (arith, t .block, bytes-fit n d (roomIn d) refl (r .1));
+      slopes = omega (arith, k .block, bytes-fit n d (roomIn d) refl (u .0));
     }

@@ -3,7 +3,6 @@ use gradient::gradient as slopes_of;
 use gradient::slopes::Rule;
 use gradient::value as value_of;
 use lent_bytes::lent as bytes_lent;
-use objective_master::weights;
 use refusals::lengths;
 use refusals::lent;
 use refusals::load;
@@ -14,14 +13,12 @@ ghost use Prim.Native.Nat.{_*_, _≤_};
 ghost use lib.ListN.{length, take};
 ghost use mathlib.Core.List.{[], _∷_};
 ghost use Rattle.lists.specs.Splice.{splice};
-ghost use Rattle.task.specs.Task.{taskLength};
-ghost use Rattle.task.specs.Laid.{apartIn, Fit, laid};
-ghost use Rattle.objective_master.specs.Weights.{weightPriors};
 ghost use Rattle.lent_bytes.specs.Lent.{roomIn, bytesOf};
 ghost use Rattle.lists.specs.Lent.{lent};
 ghost use Rattle.lent_bytes.specs.SheetLists.{sheetWith, sheetOf, roomOf};
 ghost use Rattle.arm_bytes.specs.ArmCalls.{outputOf};
-ghost use Rattle.objective_bytes.specs.ObjectiveCalls.{taskNumber, objectiveNumber, slopesNumber, valueIn, objectiveValue, slopesIn};
+ghost use Rattle.objective_bytes.specs.ObjectiveCalls.{taskWith, taskOf, taskNumber, objectiveNumber, slopesNumber, valueIn, objectiveValue, slopesIn};
+ghost use Rattle.objective_bytes.specs.ObjectiveLaws.{Passed};
 
 pub fn task_number(
     sizes: &[u16],
@@ -53,32 +50,24 @@ fn slopes_number(
     limits: &[f64],
     goals: &[f64],
     history: &[f64],
+    weights: &[f64],
     joints: &[f64],
     scratch: usize,
     value: usize,
     slopes: usize,
 ) -> u16
-    ensures { λ r. ⌜ r ≡ slopesNumber (sheetOf sizes codes floats limits) (lent goals) (lent history) (lent joints) (roomIn scratch) (roomIn value) (roomIn slopes) ⌝ }
+    ensures { λ r. ⌜ r ≡ slopesNumber (sheetOf sizes codes floats limits) (taskOf goals history weights) (lent joints) (roomIn scratch) (roomIn value) (roomIn slopes) ⌝ }
 {
     let of_task = task_number(sizes, codes, floats, limits, goals, history, joints);
     let n = lengths::block_length(codes);
     let first = lent::room_refusal(n, bytes_lent::room(scratch));
     let second = lent::room_refusal(1, bytes_lent::room(value));
     let third = lent::room_refusal(n, bytes_lent::room(slopes));
+    let ten = lent::weights_refusal(weights);
     lent::first_of(
         of_task,
-        lent::first_of(first, lent::first_of(second, third)),
+        lent::first_of(first, lent::first_of(second, lent::first_of(third, ten))),
     )
-}
-
-// The list that the objective reads, with the built-in weights, for n joints.
-pub fn lay_task(limits: &[f64], goals: &[f64], history: &[f64], n: usize, task: &mut [f64])
-    requires { ⌜ (length (now task) ≡ taskLength) × (n ≤ 16) × (3 * n ≤ length (now history)) ⌝ }
-    requires { ⌜ Fit (apartIn weightPriors (now limits) (now goals) (now history) n) ⌝ }
-    ensures { λ _. ⌜ now (task .exit) ≡ laid (apartIn weightPriors (lent limits) (lent goals) (lent history) n) (lent task) ⌝ }
-{
-    let w = weights::weight_priors();
-    lay::lay_lent(&w, limits, goals, history, n, task);
 }
 
 fn value_on(
@@ -88,14 +77,15 @@ fn value_on(
     limits: &[f64],
     goals: &[f64],
     history: &[f64],
+    weights: &[f64],
     joints: &[f64],
 ) -> f64
-    requires { ⌜ taskNumber (sheetWith (now sizes) (now codes) (now floats) (now limits)) (now goals) (now history) (now joints) ≡ 0 ⌝ }
-    ensures { λ r. ⌜ r ≡ valueIn (sheetOf sizes codes floats limits) (lent goals) (lent history) (lent joints) ⌝ }
+    requires { ⌜ Passed (sheetWith (now sizes) (now codes) (now floats) (now limits)) (taskWith (now goals) (now history) (now weights)) (now joints) ⌝ }
+    ensures { λ r. ⌜ r ≡ valueIn (sheetOf sizes codes floats limits) (taskOf goals history weights) (lent joints) ⌝ }
 {
     let counts = shape::links(sizes);
     let mut task = [0.0; task::LENGTH];
-    lay_task(limits, goals, history, joints.len(), &mut task);
+    lay::lay_lent(weights, limits, goals, history, joints.len(), &mut task);
     value_of::objective(counts, codes, floats, &task, joints)
 }
 
@@ -108,18 +98,19 @@ fn slopes_on(
     limits: &[f64],
     goals: &[f64],
     history: &[f64],
+    weights: &[f64],
     joints: &[f64],
     scratch: &mut [f64],
     slopes: &mut [f64],
 ) -> f64
-    requires { ⌜ (taskNumber (sheetWith (now sizes) (now codes) (now floats) (now limits)) (now goals) (now history) (now joints) ≡ 0) × (length (now scratch) ≡ 16) × (length (now slopes) ≡ 16) ⌝ }
-    ensures { λ r. ⌜ r ≡ valueIn (sheetOf sizes codes floats limits) (lent goals) (lent history) (lent joints) ⌝ }
-    ensures { λ _. ⌜ now (slopes .exit) ≡ splice (lent slopes) 0 (slopesIn rule (sheetOf sizes codes floats limits) (lent goals) (lent history) (lent joints)) ⌝ }
+    requires { ⌜ (Passed (sheetWith (now sizes) (now codes) (now floats) (now limits)) (taskWith (now goals) (now history) (now weights)) (now joints)) × (length (now scratch) ≡ 16) × (length (now slopes) ≡ 16) ⌝ }
+    ensures { λ r. ⌜ r ≡ valueIn (sheetOf sizes codes floats limits) (taskOf goals history weights) (lent joints) ⌝ }
+    ensures { λ _. ⌜ now (slopes .exit) ≡ splice (lent slopes) 0 (slopesIn rule (sheetOf sizes codes floats limits) (taskOf goals history weights) (lent joints)) ⌝ }
     ensures { λ _. ⌜ now (scratch .exit) ≡ splice (lent scratch) 0 (lent joints) ⌝ }
 {
     let counts = shape::links(sizes);
     let mut task = [0.0; task::LENGTH];
-    lay_task(limits, goals, history, joints.len(), &mut task);
+    lay::lay_lent(weights, limits, goals, history, joints.len(), &mut task);
     slopes_of::gradient(rule, counts, codes, floats, &task, joints, scratch, slopes)
 }
 
@@ -152,19 +143,30 @@ pub(crate) fn objective(
     limits: &[f64],
     goals: &[f64],
     history: &[f64],
+    weights: &[f64],
     joints: &[f64],
     value: &mut [u8],
 ) -> u16
-    ensures number { λ r. ⌜ r ≡ objectiveNumber (sheetOf sizes codes floats limits) (lent goals) (lent history) (lent joints) (roomOf value) ⌝ }
-    ensures value { λ r. ⌜ now (value .exit) ≡ outputOf r value (objectiveValue (sheetOf sizes codes floats limits) (lent goals) (lent history) (lent joints)) ⌝ }
+    ensures number { λ r. ⌜ r ≡ objectiveNumber (sheetOf sizes codes floats limits) (taskOf goals history weights) (lent joints) (roomOf value) ⌝ }
+    ensures value { λ r. ⌜ now (value .exit) ≡ outputOf r value (objectiveValue (sheetOf sizes codes floats limits) (taskOf goals history weights) (lent joints)) ⌝ }
 {
     let of_task = task_number(sizes, codes, floats, limits, goals, history, joints);
     let nine = lent::room_refusal(1, bytes_lent::room(value.len()));
-    let number = lent::first_of(of_task, nine);
+    let ten = lent::weights_refusal(weights);
+    let number = lent::first_of(of_task, lent::first_of(nine, ten));
     if number != 0 {
         return number;
     }
-    let one = [value_on(sizes, codes, floats, limits, goals, history, joints)];
+    let one = [value_on(
+        sizes,
+        codes,
+        floats,
+        limits,
+        goals,
+        history,
+        weights,
+        joints,
+    )];
     bytes_lent::put_floats(&one, 0, value);
     0
 }
@@ -177,15 +179,16 @@ pub(crate) fn gradient(
     limits: &[f64],
     goals: &[f64],
     history: &[f64],
+    weights: &[f64],
     joints: &[f64],
     scratch: &mut [u8],
     value: &mut [u8],
     slopes: &mut [u8],
 ) -> u16
-    ensures number { λ r. ⌜ r ≡ slopesNumber (sheetOf sizes codes floats limits) (lent goals) (lent history) (lent joints) (roomOf scratch) (roomOf value) (roomOf slopes) ⌝ }
+    ensures number { λ r. ⌜ r ≡ slopesNumber (sheetOf sizes codes floats limits) (taskOf goals history weights) (lent joints) (roomOf scratch) (roomOf value) (roomOf slopes) ⌝ }
     ensures scratch { λ r. ⌜ now (scratch .exit) ≡ outputOf r scratch (lent joints) ⌝ }
-    ensures value { λ r. ⌜ now (value .exit) ≡ outputOf r value (objectiveValue (sheetOf sizes codes floats limits) (lent goals) (lent history) (lent joints)) ⌝ }
-    ensures slopes { λ r. ⌜ now (slopes .exit) ≡ outputOf r slopes (slopesIn rule (sheetOf sizes codes floats limits) (lent goals) (lent history) (lent joints)) ⌝ }
+    ensures value { λ r. ⌜ now (value .exit) ≡ outputOf r value (objectiveValue (sheetOf sizes codes floats limits) (taskOf goals history weights) (lent joints)) ⌝ }
+    ensures slopes { λ r. ⌜ now (slopes .exit) ≡ outputOf r slopes (slopesIn rule (sheetOf sizes codes floats limits) (taskOf goals history weights) (lent joints)) ⌝ }
 {
     let number = slopes_number(
         sizes,
@@ -194,6 +197,7 @@ pub(crate) fn gradient(
         limits,
         goals,
         history,
+        weights,
         joints,
         scratch.len(),
         value.len(),
@@ -212,6 +216,7 @@ pub(crate) fn gradient(
         limits,
         goals,
         history,
+        weights,
         joints,
         &mut x,
         &mut d,

@@ -1,12 +1,23 @@
 // The calls on the objective, as little-endian bytes. The answer is the refusal's number, 0 where the call is accepted.
 use crate::objective_lists;
+use crate::weights as weights_list;
 use gradient::slopes::Rule;
+use lent_bytes::lent;
 use lent_bytes::sheet_lists;
 use lent_bytes::task_lists;
 ghost use mathlib.Core.Path.{_≡_};
-ghost use Rattle.lent_bytes.specs.SheetLists.{sheetIn, blockIn, goalsIn, historyIn, roomOf};
+ghost use Rattle.lent_bytes.specs.SheetLists.{sheetIn, blockIn, roomOf};
 ghost use Rattle.arm_bytes.specs.ArmCalls.{outputOf};
-ghost use Rattle.objective_bytes.specs.ObjectiveCalls.{objectiveNumber, slopesNumber, objectiveValue, slopesIn, gradientSlopes, finiteDiffSlopes};
+ghost use Rattle.objective_bytes.specs.ObjectiveCalls.{weightsIn, taskIn, setWeightsNumber, objectiveNumber, slopesNumber, objectiveValue, slopesIn, gradientSlopes, finiteDiffSlopes};
+
+// No arms are asked for, so none are lent.
+pub fn set_weights(weights: &[u8]) -> u32
+    ensures { λ r. ⌜ r ≡ setWeightsNumber (weightsIn weights) ⌝ }
+{
+    let mut w = [0.0; 8];
+    let n = lent::floats(weights, &mut w);
+    refusals::lent::weights_refusal(&w[..n]) as u32
+}
 
 pub fn objective(
     sizes: &[u8],
@@ -15,11 +26,12 @@ pub fn objective(
     limits: &[u8],
     goals: &[u8],
     history: &[u8],
+    weights: &[u8],
     joints: &[u8],
     value: &mut [u8],
 ) -> u32
-    ensures number { λ r. ⌜ r ≡ objectiveNumber (sheetIn sizes codes floats limits) (goalsIn goals) (historyIn history) (blockIn joints) (roomOf value) ⌝ }
-    ensures value { λ r. ⌜ now (value .exit) ≡ outputOf r value (objectiveValue (sheetIn sizes codes floats limits) (goalsIn goals) (historyIn history) (blockIn joints)) ⌝ }
+    ensures number { λ r. ⌜ r ≡ objectiveNumber (sheetIn sizes codes floats limits) (taskIn goals history weights) (blockIn joints) (roomOf value) ⌝ }
+    ensures value { λ r. ⌜ now (value .exit) ≡ outputOf r value (objectiveValue (sheetIn sizes codes floats limits) (taskIn goals history weights) (blockIn joints)) ⌝ }
 {
     let mut s = [0u16; 5];
     let mut c = [0u16; 64];
@@ -27,6 +39,7 @@ pub fn objective(
     let mut l = [0.0; 32];
     let mut g = [0.0; 52];
     let mut h = [0.0; 64];
+    let mut w = [0.0; 8];
     let mut x = [0.0; 16];
     let n = sheet_lists::decode(sizes, codes, floats, limits, &mut s, &mut c, &mut f, &mut l);
     let ns = n.sizes;
@@ -37,6 +50,7 @@ pub fn objective(
     let ng = t.goals;
     let nh = t.history;
     let nx = t.joints;
+    let nw = weights_list::decode(weights, &mut w);
     objective_lists::objective(
         &s[..ns],
         &c[..nc],
@@ -44,6 +58,7 @@ pub fn objective(
         &l[..nl],
         &g[..ng],
         &h[..nh],
+        &w[..nw],
         &x[..nx],
         value,
     ) as u32
@@ -58,15 +73,16 @@ fn slopes_by(
     limits: &[u8],
     goals: &[u8],
     history: &[u8],
+    weights: &[u8],
     joints: &[u8],
     scratch: &mut [u8],
     value: &mut [u8],
     slopes: &mut [u8],
 ) -> u32
-    ensures number { λ r. ⌜ r ≡ slopesNumber (sheetIn sizes codes floats limits) (goalsIn goals) (historyIn history) (blockIn joints) (roomOf scratch) (roomOf value) (roomOf slopes) ⌝ }
+    ensures number { λ r. ⌜ r ≡ slopesNumber (sheetIn sizes codes floats limits) (taskIn goals history weights) (blockIn joints) (roomOf scratch) (roomOf value) (roomOf slopes) ⌝ }
     ensures scratch { λ r. ⌜ now (scratch .exit) ≡ outputOf r scratch (blockIn joints) ⌝ }
-    ensures value { λ r. ⌜ now (value .exit) ≡ outputOf r value (objectiveValue (sheetIn sizes codes floats limits) (goalsIn goals) (historyIn history) (blockIn joints)) ⌝ }
-    ensures slopes { λ r. ⌜ now (slopes .exit) ≡ outputOf r slopes (slopesIn rule (sheetIn sizes codes floats limits) (goalsIn goals) (historyIn history) (blockIn joints)) ⌝ }
+    ensures value { λ r. ⌜ now (value .exit) ≡ outputOf r value (objectiveValue (sheetIn sizes codes floats limits) (taskIn goals history weights) (blockIn joints)) ⌝ }
+    ensures slopes { λ r. ⌜ now (slopes .exit) ≡ outputOf r slopes (slopesIn rule (sheetIn sizes codes floats limits) (taskIn goals history weights) (blockIn joints)) ⌝ }
 {
     let mut s = [0u16; 5];
     let mut c = [0u16; 64];
@@ -74,6 +90,7 @@ fn slopes_by(
     let mut l = [0.0; 32];
     let mut g = [0.0; 52];
     let mut h = [0.0; 64];
+    let mut w = [0.0; 8];
     let mut x = [0.0; 16];
     let n = sheet_lists::decode(sizes, codes, floats, limits, &mut s, &mut c, &mut f, &mut l);
     let ns = n.sizes;
@@ -84,6 +101,7 @@ fn slopes_by(
     let ng = t.goals;
     let nh = t.history;
     let nx = t.joints;
+    let nw = weights_list::decode(weights, &mut w);
     objective_lists::gradient(
         rule,
         &s[..ns],
@@ -92,6 +110,7 @@ fn slopes_by(
         &l[..nl],
         &g[..ng],
         &h[..nh],
+        &w[..nw],
         &x[..nx],
         scratch,
         value,
@@ -106,15 +125,16 @@ pub fn gradient(
     limits: &[u8],
     goals: &[u8],
     history: &[u8],
+    weights: &[u8],
     joints: &[u8],
     scratch: &mut [u8],
     value: &mut [u8],
     slopes: &mut [u8],
 ) -> u32
-    ensures number { λ r. ⌜ r ≡ slopesNumber (sheetIn sizes codes floats limits) (goalsIn goals) (historyIn history) (blockIn joints) (roomOf scratch) (roomOf value) (roomOf slopes) ⌝ }
+    ensures number { λ r. ⌜ r ≡ slopesNumber (sheetIn sizes codes floats limits) (taskIn goals history weights) (blockIn joints) (roomOf scratch) (roomOf value) (roomOf slopes) ⌝ }
     ensures scratch { λ r. ⌜ now (scratch .exit) ≡ outputOf r scratch (blockIn joints) ⌝ }
-    ensures value { λ r. ⌜ now (value .exit) ≡ outputOf r value (objectiveValue (sheetIn sizes codes floats limits) (goalsIn goals) (historyIn history) (blockIn joints)) ⌝ }
-    ensures slopes { λ r. ⌜ now (slopes .exit) ≡ outputOf r slopes (gradientSlopes (sheetIn sizes codes floats limits) (goalsIn goals) (historyIn history) (blockIn joints)) ⌝ }
+    ensures value { λ r. ⌜ now (value .exit) ≡ outputOf r value (objectiveValue (sheetIn sizes codes floats limits) (taskIn goals history weights) (blockIn joints)) ⌝ }
+    ensures slopes { λ r. ⌜ now (slopes .exit) ≡ outputOf r slopes (gradientSlopes (sheetIn sizes codes floats limits) (taskIn goals history weights) (blockIn joints)) ⌝ }
 {
     slopes_by(
         Rule::EachLoss,
@@ -124,6 +144,7 @@ pub fn gradient(
         limits,
         goals,
         history,
+        weights,
         joints,
         scratch,
         value,
@@ -138,15 +159,16 @@ pub fn gradient_finite_diff(
     limits: &[u8],
     goals: &[u8],
     history: &[u8],
+    weights: &[u8],
     joints: &[u8],
     scratch: &mut [u8],
     value: &mut [u8],
     slopes: &mut [u8],
 ) -> u32
-    ensures number { λ r. ⌜ r ≡ slopesNumber (sheetIn sizes codes floats limits) (goalsIn goals) (historyIn history) (blockIn joints) (roomOf scratch) (roomOf value) (roomOf slopes) ⌝ }
+    ensures number { λ r. ⌜ r ≡ slopesNumber (sheetIn sizes codes floats limits) (taskIn goals history weights) (blockIn joints) (roomOf scratch) (roomOf value) (roomOf slopes) ⌝ }
     ensures scratch { λ r. ⌜ now (scratch .exit) ≡ outputOf r scratch (blockIn joints) ⌝ }
-    ensures value { λ r. ⌜ now (value .exit) ≡ outputOf r value (objectiveValue (sheetIn sizes codes floats limits) (goalsIn goals) (historyIn history) (blockIn joints)) ⌝ }
-    ensures slopes { λ r. ⌜ now (slopes .exit) ≡ outputOf r slopes (finiteDiffSlopes (sheetIn sizes codes floats limits) (goalsIn goals) (historyIn history) (blockIn joints)) ⌝ }
+    ensures value { λ r. ⌜ now (value .exit) ≡ outputOf r value (objectiveValue (sheetIn sizes codes floats limits) (taskIn goals history weights) (blockIn joints)) ⌝ }
+    ensures slopes { λ r. ⌜ now (slopes .exit) ≡ outputOf r slopes (finiteDiffSlopes (sheetIn sizes codes floats limits) (taskIn goals history weights) (blockIn joints)) ⌝ }
 {
     slopes_by(
         Rule::WeightedSum,
@@ -156,6 +178,7 @@ pub fn gradient_finite_diff(
         limits,
         goals,
         history,
+        weights,
         joints,
         scratch,
         value,

@@ -1,5 +1,6 @@
 -- The weighted sum: eight weights, one a kind of objective.
 use mathlib.Core.Path.{_≡_, refl, sym, ap, _∙_}
+use mathlib.Core.Bool.{Bool, true, false, cond}
 use mathlib.Core.List.{List, [], _∷_, map}
 use Prim.Native.Nat.{ℕ, zero, suc, _+_, _≤_, _<_}
 use native.Mathlib.Numerals.{add-one}
@@ -33,6 +34,10 @@ weightPriors =
     ∷ ofBits binary64 0x3f84_7ae1_47ae_147b
     ∷ []
 
+-- the weights in force: those loaded, the built-in ones where none are
+unfoldable pub inForce : Bool → List Float → List Float
+inForce loaded ws = cond loaded ws weightPriors
+
 unfoldable pub weightOf : List Float → Objective → Float
 weightOf ws o = getD ws (kindNumber o) nan
 
@@ -63,6 +68,20 @@ weightedBy ws ks vs = sumTo (termAt ws ks vs) nought (length ks)
 pub weights-eight : length weightPriors ≡ 8
 unfolding weightPriors
 weights-eight = refl
+
+-- with none loaded the list has no part in it
+pub none-in-force : (ws : List Float) → inForce false ws ≡ weightPriors
+unfolding inForce
+none-in-force ws = refl
+
+pub loaded-in-force : (ws : List Float) → inForce true ws ≡ ws
+unfolding inForce
+loaded-in-force ws = refl
+
+pub in-force-eight : (loaded : Bool) (ws : List Float) → length ws ≡ 8 → length (inForce loaded ws) ≡ 8
+unfolding inForce
+in-force-eight true ws e = e
+in-force-eight false ws e = weights-eight
 
 pub sum-none : (ws : List Float) (ks : List ℕ) (vs : List Float) → nought ≡ sumTo (termAt ws ks vs) nought 0
 unfolding sumTo

@@ -3,7 +3,7 @@ ghost use mathlib.Core.Path.{_≡_};
 ghost use Prim.Native.Nat.{_≤_};
 ghost use lib.Ieee.{nan};
 ghost use lib.ListN.{length, getD};
-ghost use Rattle.objective_master.specs.Weights.{weightPriors, weightedBy};
+ghost use Rattle.objective_master.specs.Weights.{weightPriors, inForce, weightedBy};
 
 // The built-in weights, one a kind of objective.
 const WEIGHT_PRIORS: [f64; 8] = [50.0, 10.0, 0.1, 0.7, 0.5, 0.3, 1.0, 0.01];
@@ -12,6 +12,16 @@ pub fn weight_priors() -> [f64; 8]
     ensures { λ r. ⌜ r ≡ weightPriors ⌝ }
 {
     WEIGHT_PRIORS
+}
+
+// The weights in force, of a list and whether one is loaded.
+pub fn in_force(loaded: bool, weights: [f64; 8]) -> [f64; 8]
+    ensures { λ r. ⌜ r ≡ inForce loaded weights ⌝ }
+{
+    if loaded {
+        return weights;
+    }
+    weight_priors()
 }
 
 // The weight of a kind.

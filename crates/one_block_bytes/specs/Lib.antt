@@ -3,3 +3,4 @@ pub mod OneBlockLaws
 pub mod Numbers
 pub mod Ragged
 pub mod Planned
+pub mod Weights

@@ -1,26 +1,24 @@
 -- The byte call gets the lowest number of a condition that holds, and is accepted where none holds.
-use mathlib.Core.Path.{refl, ap, _∙_}
-use mathlib.Core.List.{List, _∷_}
+use mathlib.Core.Path.{refl}
+use mathlib.Core.List.{List, [], _∷_, _++_}
 use Prim.Native.Nat.{ℕ}
 use lib.Ieee.{Float}
 use Rattle.refusals.specs.Lengths.{slopesLength, valueLength}
-use Rattle.refusals.specs.Lowest.{firstOf}
-use Rattle.refusals.specs.Refusal.{roomRefusal}
-use Rattle.refusals.specs.Rows.{Row, upFrom, IsLowest, lowest-row, roomRow, room-row}
-use Rattle.calls.specs.Rows.{recordRows, record-rows}
+use Rattle.refusals.specs.Rows.{upFrom, IsLowest, lowest-row, roomRow, weightsRow}
+use Rattle.calls.specs.Rows.{recordRows, room-then, record-then, weights-alone}
 use Rattle.lent_bytes.specs.SheetLists.{SheetLists}
+use Rattle.objective_bytes.specs.ObjectiveCalls.{TaskLists}
 use Rattle.objective_bytes.specs.Numbers.{taskRows, task-then}
 use Rattle.one_block_bytes.specs.OneBlockCalls.{entriesIn, oneBlockNumber}
 
-pub one-block-number-lowest : (s : SheetLists) (goals history x : List Float) (value slopes rj rl rp : ℕ)
-    → IsLowest (taskRows s goals history x (roomRow valueLength value ∷ roomRow (slopesLength (s .codes)) slopes ∷ recordRows (entriesIn s) rj rl rp))
-    (oneBlockNumber s goals history x value slopes rj rl rp)
+pub one-block-number-lowest : (s : SheetLists) (t : TaskLists) (x : List Float) (value slopes rj rl rp : ℕ)
+    → IsLowest
+    (taskRows s (t .goals) (t .history) x
+    (roomRow valueLength value ∷ roomRow (slopesLength (s .codes)) slopes ∷ (recordRows (entriesIn s) rj rl rp ++ (weightsRow (t .weights) ∷ []))))
+    (oneBlockNumber s t x value slopes rj rl rp)
 unfolding oneBlockNumber upFrom
-one-block-number-lowest s goals history x value slopes rj rl rp =
-    let k = slopesLength (s .codes) in
-    let rest : List Row = recordRows (entriesIn s) rj rl rp in
+one-block-number-lowest s t x value slopes rj rl rp =
     lowest-row _ _ refl
-    (task-then s goals history x _ _
-    (ap (λ (n : ℕ). firstOf (roomRefusal valueLength value) (firstOf (roomRefusal k slopes) n)) (record-rows (entriesIn s) rj rl rp)
-    ∙ ap (firstOf (roomRefusal valueLength value)) (room-row k slopes rest)
-    ∙ room-row valueLength value (roomRow k slopes ∷ rest)))
+    (task-then s (t .goals) (t .history) x _ _
+    (room-then valueLength value _ _
+    (room-then (slopesLength (s .codes)) slopes _ _ (record-then (entriesIn s) rj rl rp _ _ (weights-alone (t .weights))))))

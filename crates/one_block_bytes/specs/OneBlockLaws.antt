@@ -19,8 +19,8 @@ use Rattle.calls.specs.OneBlock.{recordRefusal}
 use Rattle.lent_bytes.specs.Lent.{roomIn, numberRoomIn, number-room-within}
 use Rattle.lent_bytes.specs.SheetLists.{SheetLists}
 use Rattle.arm_bytes.specs.ArmLaws.{bytes-fit}
-use Rattle.objective_bytes.specs.ObjectiveCalls.{taskNumber}
-use Rattle.objective_bytes.specs.ObjectiveLaws.{Taken, task-taken}
+use Rattle.objective_bytes.specs.ObjectiveCalls.{TaskLists, taskNumber}
+use Rattle.objective_bytes.specs.ObjectiveLaws.{Passed, Taken, task-taken}
 use Rattle.one_block_bytes.specs.OneBlockCalls.{entriesIn, oneBlockNumber, recordJointsIn, recordLinksIn, recordPosesIn}
 
 -- ---- how many entries: chains have at most 16 links, and there are at most 16 joints
@@ -57,8 +57,8 @@ shape-entries sizes cs floats s =
     entries-near (linksOf sizes) cs (λ c h. s .sized .links c (omega (arith, s .sized .long)) .1) (s .most) (s .moving)
 
 -- ---- what a call knows that is accepted with outputs of so many bytes
-pub record Fitted (s : SheetLists) (goals history x : List Float) (value slopes rj rl rp : ℕ) : Type 0 where
-  pub accepted : taskNumber s goals history x ≡ 0
+pub record Fitted (s : SheetLists) (t : TaskLists) (x : List Float) (value slopes rj rl rp : ℕ) : Type 0 where
+  pub accepted : Passed s t x
   pub few : length x ≤ 16
   pub entries : entriesIn s ≤ 320
   pub value-room : 8 ≤ value
@@ -85,24 +85,25 @@ task-counted s goals history x e =
       entries = shape-entries (s .sizes) (s .codes) (length (s .floats)) p;
     }
 
-pub one-block-fitted : (s : SheetLists) (goals history x : List Float) (value slopes rj rl rp : ℕ)
-    → oneBlockNumber s goals history x (roomIn value) (roomIn slopes) (numberRoomIn rj) (numberRoomIn rl) (roomIn rp) ≡ 0
-    → Fitted s goals history x value slopes rj rl rp
+pub one-block-fitted : (s : SheetLists) (t : TaskLists) (x : List Float) (value slopes rj rl rp : ℕ)
+    → oneBlockNumber s t x (roomIn value) (roomIn slopes) (numberRoomIn rj) (numberRoomIn rl) (roomIn rp) ≡ 0
+    → Fitted s t x value slopes rj rl rp
 unfolding oneBlockNumber recordRefusal
-one-block-fitted s goals history x value slopes rj rl rp e =
+one-block-fitted s t x value slopes rj rl rp e =
     let n = joints (s .codes) in
     let p = first-none _ _ e in
     let q = first-none _ _ (p .1) in
     let r = first-none _ _ (q .1) in
-    let u = first-none _ _ (r .1) in
+    let m = first-none _ _ (r .1) in
+    let u = first-none _ _ (m .0) in
     let v = first-none _ _ (u .1) in
-    let t : Taken s goals history x = task-taken s goals history x (p .0) in
+    let k : Taken s t x = task-taken s t x (p .0, m .1) in
     record {
-      accepted = p .0;
-      few = omega (arith, t .block, t .few);
-      entries = task-counted s goals history x (p .0) .entries;
+      accepted = (p .0, m .1);
+      few = omega (arith, k .block, k .few);
+      entries = task-counted s (t .goals) (t .history) x (p .0) .entries;
       value-room = omega (arith, bytes-fit 1 value (roomIn value) refl (q .0));
-      slopes-room = omega (arith, t .block, bytes-fit n slopes (roomIn slopes) refl (r .0));
+      slopes-room = omega (arith, k .block, bytes-fit n slopes (roomIn slopes) refl (r .0));
       joints-room = omega (arith, room-passed (entriesIn s) (numberRoomIn rj) (u .0), number-room-within rj);
       links-room = omega (arith, room-passed (entriesIn s) (numberRoomIn rl) (v .0), number-room-within rl);
       poses-room = bytes-fit (7 * entriesIn s) rp (roomIn rp) refl (v .1);

@@ -1,13 +1,14 @@
 -- What a plan promises of the record as bytes: two a joint or a link, eight a float of a pose.
 use mathlib.Core.Path.{_≡_, refl, sym, ap, _∙_}
+use mathlib.Core.Bool.{Bool, true, false, cond}
 use mathlib.Core.Logic.{_⊎_, inl, inr, ⊎-elim}
 use mathlib.Core.List.{List}
-use Prim.Native.Nat.{ℕ, _*_, _≤_, _<_}
+use Prim.Native.Nat.{ℕ, zero, suc, _*_, _≤_, _<_}
 use native.Mathlib.Omega.{arith}
 use lib.Ieee.{Float}
 use Rattle.refusals.specs.Lengths.{slopesLength, valueLength, recordPosesLength}
-use Rattle.refusals.specs.Lowest.{firstOf, first-zero, first-last, first-most}
-use Rattle.refusals.specs.Refusal.{chainsOf, roomRefusal}
+use Rattle.refusals.specs.Lowest.{firstOf, first-zero, first-some, first-is, first-most}
+use Rattle.refusals.specs.Refusal.{chainsOf, badWeights, roomRefusal, weightsRefusal}
 use Rattle.refusals.specs.Passed.{load-most, block-most, history-most, goals-most, room-enough, room-behind}
 use Rattle.calls.specs.OneBlock.{recordRefusal}
 use Rattle.sizing.specs.Sizing.{planOf}
@@ -15,7 +16,7 @@ use Rattle.sizing.specs.Planned.{RecordRoom, RecordShort, record-room, record-s
 use Rattle.lent_bytes.specs.Lent.{roomIn, numberRoomIn, room-within, number-room-within, room-whole, number-room-whole}
 use Rattle.lent_bytes.specs.SheetLists.{SheetLists, same-three}
 use Rattle.arm_bytes.specs.Planned.{planIn}
-use Rattle.objective_bytes.specs.ObjectiveCalls.{taskNumber}
+use Rattle.objective_bytes.specs.ObjectiveCalls.{TaskLists, taskNumber}
 use Rattle.one_block_bytes.specs.OneBlockCalls.{entriesIn, oneBlockNumber}
 
 -- a plan's entries are those that the call asks
@@ -23,40 +24,53 @@ planned-entries : (s : SheetLists) → planIn s .entries ≡ entriesIn s
 unfolding planOf
 planned-entries s = refl
 
-module _ (s : SheetLists) (goals history x : List Float) where
+weights-not-nine : (ws : List Float) → weightsRefusal ws ≡ 9 → ⊥
+unfolding weightsRefusal
+weights-not-nine ws e = pick (badWeights ws) e
+  where
+    pick : (t : Bool) → _≡_ {A = ℕ} (cond t 10 0) 9 → ⊥
+    pick true e = omega arith
+    pick false e = omega arith
+
+-- a number below 9, or else one that is not 9
+never-nine : (a b : ℕ) → a ≤ 8 → (b ≡ 9 → ⊥) → firstOf a b ≡ 9 → ⊥
+never-nine zero b h k e = k (sym (first-zero 0 b refl) ∙ e)
+never-nine (suc a) b h k e = omega (arith, first-some (suc a) b (λ z. omega arith), e)
+
+module _ (s : SheetLists) (t : TaskLists) (x : List Float) where
   -- the numbers before 9
-  task-most : taskNumber s goals history x ≤ 8
+  task-most : taskNumber s (t .goals) (t .history) x ≤ 8
   unfolding taskNumber
   task-most =
       first-most _ _ 8 (omega (arith, load-most (s .sizes) (s .codes) (s .floats) (s .limits)))
       (first-most _ _ 8
-      (first-most _ _ 8 (omega (arith, block-most (s .codes) x)) (omega (arith, history-most (s .codes) history)))
-      (goals-most (chainsOf (s .sizes)) goals))
+      (first-most _ _ 8 (omega (arith, block-most (s .codes) x)) (omega (arith, history-most (s .codes) (t .history))))
+      (goals-most (chainsOf (s .sizes)) (t .goals)))
 
   -- a record of rj joints, rl links and rp floats of poses, of the planned lengths or longer: none has a part in the number
   pub one-block-bytes-planned : (value slopes rj rl rp : ℕ) → RecordRoom (planIn s) rj rl rp
-      → oneBlockNumber s goals history x value slopes (numberRoomIn (2 * rj)) (numberRoomIn (2 * rl)) (roomIn (8 * rp))
-      ≡ firstOf (taskNumber s goals history x) (firstOf (roomRefusal valueLength value) (roomRefusal (slopesLength (s .codes)) slopes))
+      → oneBlockNumber s t x value slopes (numberRoomIn (2 * rj)) (numberRoomIn (2 * rl)) (roomIn (8 * rp))
+      ≡ firstOf (taskNumber s (t .goals) (t .history) x) (firstOf (roomRefusal valueLength value) (firstOf (roomRefusal (slopesLength (s .codes)) slopes) (weightsRefusal (t .weights))))
   unfolding oneBlockNumber
   one-block-bytes-planned value slopes rj rl rp h =
-      ap (λ (n : ℕ). firstOf (taskNumber s goals history x) (firstOf (roomRefusal valueLength value) n))
-      (first-last _ _
+      ap (λ (n : ℕ). firstOf (taskNumber s (t .goals) (t .history) x) (firstOf (roomRefusal valueLength value) (firstOf (roomRefusal (slopesLength (s .codes)) slopes) n)))
+      (first-zero _ _
       (same-three (recordRefusal (entriesIn s)) (number-room-whole rj) (number-room-whole rl) (room-whole rp)
       ∙ ap (λ (n : ℕ). recordRefusal n rj rl rp) (sym (planned-entries s))
       ∙ record-room (planIn s) rj rl rp h))
 
   -- so with room for the value and the slopes it is never 9
   pub one-block-bytes-never-nine : (value slopes rj rl rp : ℕ) → valueLength ≤ value → slopesLength (s .codes) ≤ slopes → RecordRoom (planIn s) rj rl rp
-      → oneBlockNumber s goals history x value slopes (numberRoomIn (2 * rj)) (numberRoomIn (2 * rl)) (roomIn (8 * rp)) ≡ 9 → ⊥
+      → oneBlockNumber s t x value slopes (numberRoomIn (2 * rj)) (numberRoomIn (2 * rl)) (roomIn (8 * rp)) ≡ 9 → ⊥
   one-block-bytes-never-nine value slopes rj rl rp v l h nine =
-      let taken = one-block-bytes-planned value slopes rj rl rp h
-      ∙ first-last _ _ (first-zero _ _ (room-enough valueLength value v) ∙ room-enough (slopesLength (s .codes)) slopes l) in
-      omega (arith, nine, taken, task-most)
+      let known = one-block-bytes-planned value slopes rj rl rp h
+      ∙ ap (firstOf (taskNumber s (t .goals) (t .history) x)) (first-zero _ _ (room-enough valueLength value v) ∙ first-zero _ _ (room-enough (slopesLength (s .codes)) slopes l)) in
+      never-nine _ _ task-most (weights-not-nine (t .weights)) (sym known ∙ nine)
 
   -- with fewer bytes in any of the three it is 9, where no number below 9 applies
-  pub one-block-bytes-short : (value slopes j l p : ℕ) → taskNumber s goals history x ≡ 0
+  pub one-block-bytes-short : (value slopes j l p : ℕ) → taskNumber s (t .goals) (t .history) x ≡ 0
       → (j < 2 * planIn s .entries) ⊎ ((l < 2 * planIn s .entries) ⊎ (p < 8 * recordPosesLength (planIn s .entries)))
-      → oneBlockNumber s goals history x value slopes (numberRoomIn j) (numberRoomIn l) (roomIn p) ≡ 9
+      → oneBlockNumber s t x value slopes (numberRoomIn j) (numberRoomIn l) (roomIn p) ≡ 9
   unfolding oneBlockNumber
   one-block-bytes-short value slopes j l p q h =
       let n = planIn s .entries in
@@ -68,4 +82,5 @@ module _ (s : SheetLists) (goals history x : List Float) where
       first-zero _ _ q
       ∙ room-behind _ value _
       (room-behind _ slopes _
-      (ap (λ (k : ℕ). recordRefusal k (numberRoomIn j) (numberRoomIn l) (roomIn p)) (sym (planned-entries s)) ∙ record-short (planIn s) (numberRoomIn j) (numberRoomIn l) (roomIn p) short))
+      (first-is _ _ 8
+      (ap (λ (k : ℕ). recordRefusal k (numberRoomIn j) (numberRoomIn l) (roomIn p)) (sym (planned-entries s)) ∙ record-short (planIn s) (numberRoomIn j) (numberRoomIn l) (roomIn p) short)))

@@ -6,6 +6,7 @@ use one_block::grad;
 use refusals::lengths;
 use refusals::lent;
 use refusals::shape;
+use task::lay;
 ghost use mathlib.Core.Path.{_≡_};
 ghost use mathlib.Core.List.{[], _∷_};
 ghost use Prim.Native.Nat.{_*_, _≤_};
@@ -15,7 +16,8 @@ ghost use Rattle.lent_bytes.specs.Lent.{roomIn, numberRoomIn, bytesOf, bytesOfN
 ghost use Rattle.lists.specs.Lent.{lent};
 ghost use Rattle.lent_bytes.specs.SheetLists.{sheetWith, sheetOf, roomOf, numberRoomOf};
 ghost use Rattle.arm_bytes.specs.ArmCalls.{outputOf};
-ghost use Rattle.objective_bytes.specs.ObjectiveCalls.{taskNumber, valueIn, objectiveValue, gradientSlopes};
+ghost use Rattle.objective_bytes.specs.ObjectiveCalls.{taskWith, taskOf, valueIn, objectiveValue, gradientSlopes};
+ghost use Rattle.objective_bytes.specs.ObjectiveLaws.{Passed};
 ghost use Rattle.one_block_bytes.specs.OneBlockCalls.{entriesIn, oneBlockNumber, RecordHeld, RecordWritten};
 ghost use Rattle.one_block_bytes.specs.OneBlockLaws.{Counted, Fitted};
 
@@ -34,6 +36,7 @@ fn one_block_number(
     limits: &[f64],
     goals: &[f64],
     history: &[f64],
+    weights: &[f64],
     joints: &[f64],
     value: usize,
     slopes: usize,
@@ -41,7 +44,7 @@ fn one_block_number(
     record_links: usize,
     record_poses: usize,
 ) -> u16
-    ensures { λ r. ⌜ r ≡ oneBlockNumber (sheetOf sizes codes floats limits) (lent goals) (lent history) (lent joints)
+    ensures { λ r. ⌜ r ≡ oneBlockNumber (sheetOf sizes codes floats limits) (taskOf goals history weights) (lent joints)
         (roomIn value) (roomIn slopes) (numberRoomIn «record_joints») (numberRoomIn «record_links») (roomIn «record_poses») ⌝ }
 {
     let of_task = objective_lists::task_number(
@@ -65,7 +68,8 @@ fn one_block_number(
         bytes_lent::number_room(record_links),
         bytes_lent::room(record_poses),
     );
-    lent::first_of(first, lent::first_of(second, third))
+    let ten = lent::weights_refusal(weights);
+    lent::first_of(first, lent::first_of(second, lent::first_of(third, ten)))
 }
 
 // Value, slopes and record of the decoded block.
@@ -76,23 +80,24 @@ fn one_block_on(
     limits: &[f64],
     goals: &[f64],
     history: &[f64],
+    weights: &[f64],
     block: &mut [f64],
     slopes: &mut [f64],
     record_joints: &mut [u16],
     record_links: &mut [u16],
     record_poses: &mut [f64],
 ) -> f64
-    requires { ⌜ taskNumber (sheetWith (now sizes) (now codes) (now floats) (now limits)) (now goals) (now history) (now block) ≡ 0 ⌝ }
+    requires { ⌜ Passed (sheetWith (now sizes) (now codes) (now floats) (now limits)) (taskWith (now goals) (now history) (now weights)) (now block) ⌝ }
     requires { ⌜ (length (now slopes) ≡ 16) × (length (now «record_joints») ≡ 320) × (length (now «record_links») ≡ 320) ⌝ }
     requires { ⌜ 7 * entriesIn (sheetWith (now sizes) (now codes) (now floats) (now limits)) ≤ length (now «record_poses») ⌝ }
-    ensures { λ r. ⌜ r ≡ valueIn (sheetOf sizes codes floats limits) (lent goals) (lent history) (lent block) ⌝ }
+    ensures { λ r. ⌜ r ≡ valueIn (sheetOf sizes codes floats limits) (taskOf goals history weights) (lent block) ⌝ }
     ensures { λ _. ⌜ now (block .exit) ≡ now (block .entry) ⌝ }
-    ensures { λ _. ⌜ now (slopes .exit) ≡ splice (lent slopes) 0 (gradientSlopes (sheetOf sizes codes floats limits) (lent goals) (lent history) (lent block)) ⌝ }
+    ensures { λ _. ⌜ now (slopes .exit) ≡ splice (lent slopes) 0 (gradientSlopes (sheetOf sizes codes floats limits) (taskOf goals history weights) (lent block)) ⌝ }
     ensures { λ _. ⌜ RecordHeld (sheetOf sizes codes floats limits) (lent block) «record_joints» «record_links» «record_poses» ⌝ }
 {
     let counts = shape::links(sizes);
     let mut task = [0.0; task::LENGTH];
-    objective_lists::lay_task(limits, goals, history, block.len(), &mut task);
+    lay::lay_lent(weights, limits, goals, history, block.len(), &mut task);
     grad::gradient(
         counts,
         codes,
@@ -147,6 +152,7 @@ fn put_one_block(
     limits: &[f64],
     goals: &[f64],
     history: &[f64],
+    weights: &[f64],
     block: &mut [f64],
     poses: &mut [f64],
     value: &mut [u8],
@@ -155,11 +161,11 @@ fn put_one_block(
     record_links: &mut [u8],
     record_poses: &mut [u8],
 )
-    requires { ⌜ Fitted (sheetWith (now sizes) (now codes) (now floats) (now limits)) (now goals) (now history) (now block)
+    requires { ⌜ Fitted (sheetWith (now sizes) (now codes) (now floats) (now limits)) (taskWith (now goals) (now history) (now weights)) (now block)
         (length (now value)) (length (now slopes)) (length (now «record_joints»)) (length (now «record_links»)) (length (now «record_poses»)) ⌝ }
     requires { ⌜ 7 * entriesIn (sheetWith (now sizes) (now codes) (now floats) (now limits)) ≤ length (now poses) ⌝ }
-    ensures { λ _. ⌜ now (value .exit) ≡ outputOf 0 value (objectiveValue (sheetOf sizes codes floats limits) (lent goals) (lent history) (lent block)) ⌝ }
-    ensures { λ _. ⌜ now (slopes .exit) ≡ outputOf 0 slopes (gradientSlopes (sheetOf sizes codes floats limits) (lent goals) (lent history) (lent block)) ⌝ }
+    ensures { λ _. ⌜ now (value .exit) ≡ outputOf 0 value (objectiveValue (sheetOf sizes codes floats limits) (taskOf goals history weights) (lent block)) ⌝ }
+    ensures { λ _. ⌜ now (slopes .exit) ≡ outputOf 0 slopes (gradientSlopes (sheetOf sizes codes floats limits) (taskOf goals history weights) (lent block)) ⌝ }
     ensures { λ _. ⌜ RecordWritten 0 (sheetOf sizes codes floats limits) (lent block) «record_joints» «record_links» «record_poses» ⌝ }
 {
     let mut d = [0.0; 16];
@@ -172,6 +178,7 @@ fn put_one_block(
         limits,
         goals,
         history,
+        weights,
         block,
         &mut d,
         &mut rj,
@@ -199,6 +206,7 @@ pub(crate) fn gradient_one_block(
     limits: &[f64],
     goals: &[f64],
     history: &[f64],
+    weights: &[f64],
     block: &mut [f64],
     value: &mut [u8],
     slopes: &mut [u8],
@@ -206,10 +214,10 @@ pub(crate) fn gradient_one_block(
     record_links: &mut [u8],
     record_poses: &mut [u8],
 ) -> u16
-    ensures number { λ r. ⌜ r ≡ oneBlockNumber (sheetOf sizes codes floats limits) (lent goals) (lent history) (lent block)
+    ensures number { λ r. ⌜ r ≡ oneBlockNumber (sheetOf sizes codes floats limits) (taskOf goals history weights) (lent block)
         (roomOf value) (roomOf slopes) (numberRoomOf «record_joints») (numberRoomOf «record_links») (roomOf «record_poses») ⌝ }
-    ensures value { λ r. ⌜ now (value .exit) ≡ outputOf r value (objectiveValue (sheetOf sizes codes floats limits) (lent goals) (lent history) (lent block)) ⌝ }
-    ensures slopes { λ r. ⌜ now (slopes .exit) ≡ outputOf r slopes (gradientSlopes (sheetOf sizes codes floats limits) (lent goals) (lent history) (lent block)) ⌝ }
+    ensures value { λ r. ⌜ now (value .exit) ≡ outputOf r value (objectiveValue (sheetOf sizes codes floats limits) (taskOf goals history weights) (lent block)) ⌝ }
+    ensures slopes { λ r. ⌜ now (slopes .exit) ≡ outputOf r slopes (gradientSlopes (sheetOf sizes codes floats limits) (taskOf goals history weights) (lent block)) ⌝ }
     ensures record { λ r. ⌜ RecordWritten r (sheetOf sizes codes floats limits) (lent block) «record_joints» «record_links» «record_poses» ⌝ }
 {
     let number = one_block_number(
@@ -219,6 +227,7 @@ pub(crate) fn gradient_one_block(
         limits,
         goals,
         history,
+        weights,
         block,
         value.len(),
         slopes.len(),
@@ -238,6 +247,7 @@ pub(crate) fn gradient_one_block(
             limits,
             goals,
             history,
+            weights,
             block,
             &mut few,
             value,
@@ -256,6 +266,7 @@ pub(crate) fn gradient_one_block(
         limits,
         goals,
         history,
+        weights,
         block,
         &mut most,
         value,

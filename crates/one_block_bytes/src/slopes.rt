@@ -2,10 +2,11 @@
 use crate::one_block_lists;
 use lent_bytes::sheet_lists;
 use lent_bytes::task_lists;
+use objective_bytes::weights as weights_list;
 ghost use mathlib.Core.Path.{_≡_};
-ghost use Rattle.lent_bytes.specs.SheetLists.{sheetIn, blockIn, goalsIn, historyIn, roomOf, numberRoomOf};
+ghost use Rattle.lent_bytes.specs.SheetLists.{sheetIn, blockIn, roomOf, numberRoomOf};
 ghost use Rattle.arm_bytes.specs.ArmCalls.{outputOf};
-ghost use Rattle.objective_bytes.specs.ObjectiveCalls.{objectiveValue, gradientSlopes};
+ghost use Rattle.objective_bytes.specs.ObjectiveCalls.{taskIn, objectiveValue, gradientSlopes};
 ghost use Rattle.one_block_bytes.specs.OneBlockCalls.{oneBlockNumber, RecordWritten};
 
 // The joints are decoded once, into the block that is raised; their bytes are only read.
@@ -16,6 +17,7 @@ pub fn gradient_one_block(
     limits: &[u8],
     goals: &[u8],
     history: &[u8],
+    weights: &[u8],
     joints: &[u8],
     value: &mut [u8],
     slopes: &mut [u8],
@@ -23,10 +25,10 @@ pub fn gradient_one_block(
     record_links: &mut [u8],
     record_poses: &mut [u8],
 ) -> u32
-    ensures number { λ r. ⌜ r ≡ oneBlockNumber (sheetIn sizes codes floats limits) (goalsIn goals) (historyIn history) (blockIn joints)
+    ensures number { λ r. ⌜ r ≡ oneBlockNumber (sheetIn sizes codes floats limits) (taskIn goals history weights) (blockIn joints)
         (roomOf value) (roomOf slopes) (numberRoomOf «record_joints») (numberRoomOf «record_links») (roomOf «record_poses») ⌝ }
-    ensures value { λ r. ⌜ now (value .exit) ≡ outputOf r value (objectiveValue (sheetIn sizes codes floats limits) (goalsIn goals) (historyIn history) (blockIn joints)) ⌝ }
-    ensures slopes { λ r. ⌜ now (slopes .exit) ≡ outputOf r slopes (gradientSlopes (sheetIn sizes codes floats limits) (goalsIn goals) (historyIn history) (blockIn joints)) ⌝ }
+    ensures value { λ r. ⌜ now (value .exit) ≡ outputOf r value (objectiveValue (sheetIn sizes codes floats limits) (taskIn goals history weights) (blockIn joints)) ⌝ }
+    ensures slopes { λ r. ⌜ now (slopes .exit) ≡ outputOf r slopes (gradientSlopes (sheetIn sizes codes floats limits) (taskIn goals history weights) (blockIn joints)) ⌝ }
     ensures record { λ r. ⌜ RecordWritten r (sheetIn sizes codes floats limits) (blockIn joints) «record_joints» «record_links» «record_poses» ⌝ }
 {
     let mut s = [0u16; 5];
@@ -35,6 +37,7 @@ pub fn gradient_one_block(
     let mut l = [0.0; 32];
     let mut g = [0.0; 52];
     let mut h = [0.0; 64];
+    let mut w = [0.0; 8];
     let mut x = [0.0; 16];
     let n = sheet_lists::decode(sizes, codes, floats, limits, &mut s, &mut c, &mut f, &mut l);
     let ns = n.sizes;
@@ -45,6 +48,7 @@ pub fn gradient_one_block(
     let ng = t.goals;
     let nh = t.history;
     let nx = t.joints;
+    let nw = weights_list::decode(weights, &mut w);
     one_block_lists::gradient_one_block(
         &s[..ns],
         &c[..nc],
@@ -52,6 +56,7 @@ pub fn gradient_one_block(
         &l[..nl],
         &g[..ng],
         &h[..nh],
+        &w[..nw],
         &mut x[..nx],
         value,
         slopes,

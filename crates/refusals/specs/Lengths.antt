@@ -40,6 +40,10 @@ historyLength cs = 4 * joints cs
 abbrev pub valueLength : ℕ
 valueLength = 1
 
+-- the weights: one a kind of objective
+abbrev pub weightsLength : ℕ
+weightsLength = 8
+
 -- what sizing writes: four u16s
 abbrev pub planLength : ℕ
 planLength = 4

@@ -12,7 +12,7 @@ use Rattle.sheet.specs.Chain.{total, joints, chainLength}
 use Rattle.lists.specs.Tests.{and-true}
 use Rattle.refusals.specs.Range.{every-at, between}
 use Rattle.refusals.specs.Lowest.{lowestFrom, lowest, lowest-found, lowest-none, none-lowest, lowest-most, firstOf, first-zero, first-is, first-none}
-use Rattle.refusals.specs.Refusal.{chainsOf, linksOf, linksFit, badSizes, badLengths, listedCode, listedAt, badCodes, twoJoints, laterFits, badJoints, badLimits, badFloats, badBlock, badHistory, badGoals, shapeConditions, shapeRefusal, sheetConditions, loadConditions, loadRefusal, sizingRefusal, blockRefusal, historyRefusal, goalsRefusal, roomRefusal}
+use Rattle.refusals.specs.Refusal.{chainsOf, linksOf, linksFit, badSizes, badLengths, listedCode, listedAt, badCodes, twoJoints, laterFits, badJoints, badLimits, badFloats, badBlock, badHistory, badGoals, badWeights, shapeConditions, shapeRefusal, sheetConditions, loadConditions, loadRefusal, sizingRefusal, blockRefusal, historyRefusal, goalsRefusal, roomRefusal, weightsRefusal}
 
 -- ---- loading: the number is that of the lowest condition that holds, and 0 exactly if none does
 module _ (sizes codes : List ℕ) (floats limits : List Float) where
@@ -191,6 +191,15 @@ goals-passed chains goals e = eqb-true _ _ (not-false _ (or-none _ _ (passed _ 7
 pub room-passed : (needed have : ℕ) → roomRefusal needed have ≡ 0 → needed ≤ have
 unfolding roomRefusal
 room-passed needed have e = ltb-false have needed (passed _ 8 e)
+
+pub weights-passed : (ws : List Float) → weightsRefusal ws ≡ 0 → length ws ≡ 8
+unfolding weightsRefusal badWeights
+weights-passed ws e = eqb-true _ _ (not-false _ (or-none _ _ (passed _ 9 e) .0))
+
+-- a list of another length
+pub weights-misfit : (ws : List Float) → (length ws ≡ 8 → ⊥) → weightsRefusal ws ≡ 10
+unfolding weightsRefusal badWeights
+weights-misfit ws h = rw (ne-eqb (length ws) 8 h)
 
 -- a list with room for all that is needed
 pub room-enough : (needed have : ℕ) → needed ≤ have → roomRefusal needed have ≡ 0

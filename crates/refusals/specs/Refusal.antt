@@ -5,7 +5,7 @@ use Prim.Native.Nat.{ℕ, _+_, _-_, _*_}
 use lib.Dec.{eqb, leb, ltb}
 use lib.Ieee.{Float, binary64, ofBits, le, nan}
 use lib.ListN.{length, getD, drop}
-use Rattle.standins.specs.Num.{_⊖_}
+use Rattle.standins.specs.Num.{_⊖_, nought}
 use Rattle.sheet.specs.declared.code.Kind.{Kind}
 use Rattle.sheet.specs.declared.code.Kind.the-variants.{Fixed, Turning, Sliding, Unlisted}
 use Rattle.sheet.specs.Code.{hasJoint, kindOf}
@@ -13,7 +13,7 @@ use Rattle.sheet.specs.Chain.{total, jointOf, joints, chainLength}
 use Rattle.groove.specs.Loss.{freeOf}
 use Rattle.refusals.specs.Range.{every, between, within, withinAt, unitAt}
 use Rattle.refusals.specs.Lowest.{lowest}
-use Rattle.refusals.specs.Lengths.{blockLength, historyLength}
+use Rattle.refusals.specs.Lengths.{blockLength, historyLength, weightsLength}
 
 -- the sizes list: the chain count, then the links per chain
 abbrev pub chainsOf : List ℕ → ℕ
@@ -139,6 +139,18 @@ goalFits goals c =
 unfoldable pub badGoals : ℕ → List Float → Bool
 badGoals chains goals = not (eqb (length goals) (13 * chains)) || not (every (goalFits goals) chains)
 
+-- a weight is within 0..1000; -0.0 is
+unfoldable pub weightFits : Float → Bool
+weightFits w = le nought w && le w (ofBits binary64 0x408f_4000_0000_0000)
+
+-- weight k of a list fits
+unfoldable pub weightFitsAt : List Float → ℕ → Bool
+weightFitsAt ws k = weightFits (getD ws k nan)
+
+-- 10. Weights not eight, or one not within 0..1000.
+unfoldable pub badWeights : List Float → Bool
+badWeights ws = not (eqb (length ws) weightsLength) || not (every (weightFitsAt ws) weightsLength)
+
 -- ---- the numbers
 -- of a sheet's lengths and codes: conditions 1 to 4
 abbrev pub shapeConditions : List ℕ → List ℕ → ℕ → List Bool
@@ -182,3 +194,7 @@ goalsRefusal chains goals = cond (badGoals chains goals) 8 0
 -- 9. Output, scratch or record list too short.
 unfoldable pub roomRefusal : ℕ → ℕ → ℕ
 roomRefusal needed have = cond (ltb have needed) 9 0
+
+-- of weights
+unfoldable pub weightsRefusal : List Float → ℕ
+weightsRefusal ws = cond (badWeights ws) 10 0

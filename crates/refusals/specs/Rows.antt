@@ -13,7 +13,7 @@ use borrow.Author.Tests.{leb-true, le-leb}
 use Rattle.sheet.specs.Chain.{joints}
 use Rattle.lists.specs.Tests.{and-true}
 use Rattle.refusals.specs.Lowest.{lowestFrom, lowest, firstOf, first-zero, first-some, first-last}
-use Rattle.refusals.specs.Refusal.{linksOf, badSizes, badLengths, badCodes, badJoints, badLimits, badFloats, badBlock, badHistory, badGoals, loadRefusal, sizingRefusal, blockRefusal, historyRefusal, goalsRefusal, roomRefusal}
+use Rattle.refusals.specs.Refusal.{linksOf, badSizes, badLengths, badCodes, badJoints, badLimits, badFloats, badBlock, badHistory, badGoals, badWeights, loadRefusal, sizingRefusal, blockRefusal, historyRefusal, goalsRefusal, roomRefusal, weightsRefusal}
 
 -- a condition and the number with which it refuses
 pub record Row : Type 0 where
@@ -83,6 +83,9 @@ goalsRow chains goals = row 8 (badGoals chains goals)
 
 abbrev pub roomRow : ℕ → ℕ → Row
 roomRow needed have = row 9 (ltb have needed)
+
+abbrev pub weightsRow : List Float → Row
+weightsRow ws = row 10 (badWeights ws)
 
 -- ---- laws: the first row is the lowest
 up-least : (k : ℕ) (rs : List Row) (i : ℕ) → upFrom k rs ≡ true → rowAt rs i .holds ≡ true → k ≤ rowAt rs i .number
@@ -159,6 +162,10 @@ pub room-row : (needed have : ℕ) (rs : List Row) → firstOf (roomRefusal need
 unfolding roomRefusal
 room-row needed have rs = then-row 8 (ltb have needed) rs
 
+pub weights-row : (ws : List Float) (rs : List Row) → firstOf (weightsRefusal ws) (firstRow rs) ≡ firstRow (weightsRow ws ∷ rs)
+unfolding weightsRefusal
+weights-row ws rs = then-row 9 (badWeights ws) rs
+
 -- a number with no more to come
 pub alone : (a n : ℕ) → firstOf a (firstRow []) ≡ n → a ≡ n
 unfolding firstRow
@@ -194,3 +201,8 @@ module _ (sizes codes : List ℕ) (floats : List Float) where
   pub sizing-lowest : IsLowest (sizingRows sizes codes floats) (sizingRefusal sizes codes floats)
   unfolding upFrom
   sizing-lowest = lowest-row _ _ refl (alone _ _ (sizing-row []))
+
+-- ---- setting weights, which asks nothing else
+pub weights-lowest : (ws : List Float) → IsLowest (weightsRow ws ∷ []) (weightsRefusal ws)
+unfolding upFrom
+weights-lowest ws = lowest-row _ _ refl (alone _ _ (weights-row ws []))

@@ -1,4 +1,4 @@
-// Refusals 7 to 9: what a call is lent beside the sheet. A call's number is the first of those that apply, in order.
+// Refusals 7 to 10: what a call is lent beside the sheet. A call's number is the first of those that apply, in order.
 use crate::lengths;
 use crate::range;
 use sheet::chain;
@@ -11,7 +11,7 @@ ghost use Rattle.refusals.specs.Range.{every};
 ghost use Rattle.refusals.specs.Lowest.{firstOf};
 ghost use Rattle.sheet.specs.Chain.{jointsOf};
 ghost use Rattle.refusals.specs.Lengths.{blockLength};
-ghost use Rattle.refusals.specs.Refusal.{jointFits, valueFits, blockFits, blockRefusal, historyFits, historyRefusal, goalFits, goalsRefusal, roomRefusal};
+ghost use Rattle.refusals.specs.Refusal.{jointFits, valueFits, blockFits, blockRefusal, historyFits, historyRefusal, goalFits, goalsRefusal, roomRefusal, weightFits, weightsRefusal};
 
 pub fn first_of(a: u16, b: u16) -> u16
     ensures { λ r. ⌜ r ≡ firstOf a b ⌝ }
@@ -147,4 +147,26 @@ pub fn room_refusal(needed: usize, have: usize) -> u16
     ensures { λ r. ⌜ r ≡ roomRefusal needed have ⌝ }
 {
     if have < needed { 9 } else { 0 }
+}
+
+fn weight_fits(weight: f64) -> bool
+    ensures { λ r. ⌜ r ≡ weightFits weight ⌝ }
+{
+    0.0 <= weight && weight <= 1000.0
+}
+
+// A weight for each kind of objective.
+pub fn weights_refusal(weights: &[f64]) -> u16
+    ensures { λ r. ⌜ r ≡ weightsRefusal (now (weights .entry)) ⌝ }
+{
+    if weights.len() != 8 {
+        return 10;
+    }
+    let mut ok = true;
+    let mut k: usize = 0;
+    while k < 8 {
+        ok = range::both(ok, weight_fits(weights[k]));
+        k += 1;
+    }
+    if ok { 0 } else { 10 }
 }

@@ -19,10 +19,10 @@ sheetAt s at = sheetFrom (listOf s at sizesList) (listOf s at codesList) (listOf
 abbrev pub blockAt : List ℕ → ℕ → ℕ → List Float
 blockAt s at k = blockFrom (listOf s at k)
 
-abbrev pub goalsAt : List ℕ → ℕ → ℕ → List Float
+abbrev goalsAt : List ℕ → ℕ → ℕ → List Float
 goalsAt s at k = goalsFrom (listOf s at k)
 
-abbrev pub historyAt : List ℕ → ℕ → ℕ → List Float
+abbrev historyAt : List ℕ → ℕ → ℕ → List Float
 historyAt s at k = historyFrom (listOf s at k)
 
 abbrev pub roomAt : List ℕ → ℕ → ℕ → ℕ

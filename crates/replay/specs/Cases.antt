@@ -5,7 +5,7 @@ use Prim.Native.Nat.{ℕ}
 use lib.Dec.{eqb, ltb}
 use Rattle.stored_answers.specs.Stored.{numberAt}
 use Rattle.replay.specs.Arms.{loadAgrees, setGoalsAgrees, framesAgree, poseAgrees, manipulabilityAgrees, resetAgrees, updateAgrees, sizingAgrees}
-use Rattle.replay.specs.Objectives.{objectiveAgrees, gradientAgrees, finiteDiffAgrees, oneBlockAgrees}
+use Rattle.replay.specs.Objectives.{setWeightsAgrees, objectiveAgrees, gradientAgrees, finiteDiffAgrees, oneBlockAgrees}
 use Rattle.replay.specs.Leaves.{leafAgrees}
 
 -- 2 to 5, the byte calls with one output
@@ -23,7 +23,7 @@ twoAgree c s at = cond (eqb c 6) (framesAgree s at) (resetAgrees s at)
 unfoldable pub threeAgree : ℕ → List ℕ → ℕ → Bool
 threeAgree c s at = cond (eqb c 8) (gradientAgrees s at) (finiteDiffAgrees s at)
 
--- all of them: 0 and 1 have no output, 10 is the gradient on one block, 11 to 40 are the leaves, 41 is sizing
+-- all of them: 0 and 1 have no output, 10 is the gradient on one block, 11 to 40 are the leaves, 41 is sizing, 42 sets weights and has no output
 unfoldable pub callAgrees : ℕ → List ℕ → ℕ → Bool
 callAgrees c s at =
     cond (eqb c 0) (loadAgrees s at)
@@ -33,7 +33,8 @@ callAgrees c s at =
     (cond (ltb c 10) (threeAgree c s at)
     (cond (eqb c 10) (oneBlockAgrees s at)
     (cond (eqb c 41) (sizingAgrees s at)
-    (leafAgrees s at)))))))
+    (cond (eqb c 42) (setWeightsAgrees s at)
+    (leafAgrees s at))))))))
 
 unfoldable pub recordAgrees : List ℕ → ℕ → Bool
 recordAgrees s at = callAgrees (numberAt s at) s at

@@ -5,12 +5,12 @@ use lib.Dec.{eqb, ltb}
 
 -- the calls are 0 to the last one
 abbrev pub lastCall : ℕ
-lastCall = 41
+lastCall = 42
 
 abbrev pub calls : ℕ
 calls = lastCall + 1
 
--- every byte call: the sheet, sizing without its limits
+-- every byte call but set_weights: the sheet, sizing without its limits
 abbrev pub sizesList : ℕ
 sizesList = 0
 
@@ -31,8 +31,11 @@ goalsList = limitsList + 1
 abbrev pub historyList : ℕ
 historyList = goalsList + 1
 
+abbrev pub weightsList : ℕ
+weightsList = historyList + 1
+
 abbrev pub jointsList : ℕ
-jointsList = historyList + 1
+jointsList = weightsList + 1
 
 abbrev pub objectiveOutputs : ℕ
 objectiveOutputs = jointsList + 1
@@ -58,6 +61,10 @@ armOutputs = armJoints + 1
 abbrev pub planOutput : ℕ
 planOutput = floatsList + 1
 
+-- set_weights
+abbrev pub setWeightsList : ℕ
+setWeightsList = 0
+
 -- a leaf: the floats asked, the floats answered
 abbrev pub askedList : ℕ
 askedList = 0
@@ -70,11 +77,11 @@ unfoldable pub outputsFrom : ℕ → ℕ
 outputsFrom c =
     cond (eqb c 0) (limitsList + 1) (cond (eqb c 1) (goalsList + 1) (cond (eqb c 2) armOutputs (cond (eqb c 3) armOutputs (cond (eqb c 4) updateOutput (cond (eqb c 5) objectiveOutputs
     (cond (eqb c 6) armOutputs (cond (eqb c 7) armOutputs (cond (eqb c 8) objectiveOutputs (cond (eqb c 9) objectiveOutputs (cond (eqb c 10) objectiveOutputs
-    (cond (eqb c 41) planOutput answeredList)))))))))))
+    (cond (eqb c 41) planOutput (cond (eqb c 42) (setWeightsList + 1) answeredList))))))))))))
 
 -- and how many it has
 unfoldable pub outputsOf : ℕ → ℕ
-outputsOf c = cond (ltb c 2) 0 (cond (ltb c 6) 1 (cond (ltb c 8) 2 (cond (ltb c 10) 3 (cond (eqb c 10) 5 1))))
+outputsOf c = cond (ltb c 2) 0 (cond (ltb c 6) 1 (cond (ltb c 8) 2 (cond (ltb c 10) 3 (cond (eqb c 10) 5 (cond (eqb c 42) 0 1)))))
 
 -- how many lists a record of call c has
 unfoldable pub listsOf : ℕ → ℕ

@@ -135,5 +135,8 @@ pub fn agrees(s: &[u8], at: usize) -> bool
     if call == 41 {
         return plan_output(s, at);
     }
+    if call == 42 {
+        return objective_cases::set_weights(s, at);
+    }
     leaf_cases::leaf(s, at)
 }

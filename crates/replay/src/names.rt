@@ -56,6 +56,7 @@ fn print_shape(call: usize) -> bool {
         38 => return io::write_all(STDOUT_FILENO, b"cross"),
         39 => return io::write_all(STDOUT_FILENO, b"scaled_axis"),
         40 => return io::write_all(STDOUT_FILENO, b"gram"),
-        _ => return io::write_all(STDOUT_FILENO, b"sizing"),
+        41 => return io::write_all(STDOUT_FILENO, b"sizing"),
+        _ => return io::write_all(STDOUT_FILENO, b"set_weights"),
     }
 }

@@ -2,13 +2,22 @@
 use crate::agree;
 use crate::table;
 use objective_bytes::objectives;
+use stored_answers::agree::none;
 use stored_answers::stored::list;
 ghost use mathlib.Core.Path.{_≡_};
 ghost use Prim.Native.Nat.{_+_, _≤_, _^_};
 ghost use Rattle.stored_answers.specs.Stored.{listOf};
 ghost use Rattle.stored_answers.specs.Agree.{filled};
 ghost use Rattle.replay.specs.Table.{objectiveOutputs};
-ghost use Rattle.replay.specs.Objectives.{objectiveAgrees, gradientAgrees, finiteDiffAgrees, oneBlockAgrees};
+ghost use Rattle.replay.specs.Objectives.{setWeightsAgrees, objectiveAgrees, gradientAgrees, finiteDiffAgrees, oneBlockAgrees};
+
+pub fn set_weights(s: &[u8], at: usize) -> bool
+    requires { ⌜ at ≤ 2 ^ 40 ⌝ }
+    ensures { λ r. ⌜ r ≡ setWeightsAgrees (now (s .entry)) at ⌝ }
+{
+    let number = objectives::set_weights(list(s, at, table::SET_WEIGHTS));
+    none(s, at, number)
+}
 
 pub fn objective(s: &[u8], at: usize, value: &mut [u8]) -> bool
     requires { ⌜ at ≤ 2 ^ 40 ⌝ }
@@ -22,6 +31,7 @@ pub fn objective(s: &[u8], at: usize, value: &mut [u8]) -> bool
         list(s, at, table::LIMITS),
         list(s, at, table::GOALS),
         list(s, at, table::HISTORY),
+        list(s, at, table::WEIGHTS),
         list(s, at, table::JOINTS),
         value,
     );
@@ -48,6 +58,7 @@ pub fn gradient(
         list(s, at, table::LIMITS),
         list(s, at, table::GOALS),
         list(s, at, table::HISTORY),
+        list(s, at, table::WEIGHTS),
         list(s, at, table::JOINTS),
         scratch,
         value,
@@ -84,6 +95,7 @@ pub fn gradient_finite_diff(
         list(s, at, table::LIMITS),
         list(s, at, table::GOALS),
         list(s, at, table::HISTORY),
+        list(s, at, table::WEIGHTS),
         list(s, at, table::JOINTS),
         scratch,
         value,
@@ -124,6 +136,7 @@ pub fn gradient_one_block(
         list(s, at, table::LIMITS),
         list(s, at, table::GOALS),
         list(s, at, table::HISTORY),
+        list(s, at, table::WEIGHTS),
         list(s, at, table::JOINTS),
         value,
         slopes,

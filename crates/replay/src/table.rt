@@ -4,10 +4,10 @@ ghost use Prim.Native.Nat.{_≤_};
 ghost use Rattle.replay.specs.Table.{outputsFrom, outputsOf, listsOf};
 
 // the calls are 0 to the last one
-pub const LAST: usize = 41;
+pub const LAST: usize = 42;
 
 pub const CALLS: usize = LAST + 1;
-// every byte call: the sheet, sizing without its limits
+// every byte call but set_weights: the sheet, sizing without its limits
 pub const SIZES: usize = 0;
 
 pub const CODES: usize = SIZES + 1;
@@ -24,7 +24,9 @@ pub const GOALS_END: usize = GOALS + 1;
 // the calls on the objective
 pub const HISTORY: usize = GOALS + 1;
 
-pub const JOINTS: usize = HISTORY + 1;
+pub const WEIGHTS: usize = HISTORY + 1;
+
+pub const JOINTS: usize = WEIGHTS + 1;
 
 pub const OBJECTIVE_OUTPUTS: usize = JOINTS + 1;
 
@@ -49,6 +51,10 @@ pub const ARM_OUTPUTS: usize = ARM_JOINTS + 1;
 pub const ARM_SECOND: usize = ARM_OUTPUTS + 1;
 // sizing
 pub const PLAN_OUTPUT: usize = FLOATS + 1;
+// set_weights
+pub const SET_WEIGHTS: usize = 0;
+
+pub const SET_WEIGHTS_END: usize = SET_WEIGHTS + 1;
 // a leaf
 pub const ASKED: usize = 0;
 
@@ -56,7 +62,7 @@ pub const ANSWERED: usize = ASKED + 1;
 
 // The first output of a call.
 pub fn outputs_from(call: usize) -> usize
-    ensures { λ r. ⌜ (r ≡ outputsFrom call) × (r ≤ 7) ⌝ }
+    ensures { λ r. ⌜ (r ≡ outputsFrom call) × (1 ≤ r) × (r ≤ 8) ⌝ }
 {
     match call {
         0 => return LOAD_END,
@@ -71,6 +77,7 @@ pub fn outputs_from(call: usize) -> usize
         9 => return OBJECTIVE_OUTPUTS,
         10 => return OBJECTIVE_OUTPUTS,
         41 => return PLAN_OUTPUT,
+        42 => return SET_WEIGHTS_END,
         _ => return ANSWERED,
     }
 }
@@ -91,12 +98,15 @@ fn outputs(call: usize) -> usize
     if call < 10 {
         return 3;
     }
-    if call == 10 { 5 } else { 1 }
+    if call == 10 {
+        return 5;
+    }
+    if call == 42 { 0 } else { 1 }
 }
 
 // How many lists a record of the call has.
 pub fn lists(call: usize) -> usize
-    ensures { λ r. ⌜ (r ≡ listsOf call) × (r ≤ 12) ⌝ }
+    ensures { λ r. ⌜ (r ≡ listsOf call) × (1 ≤ r) × (r ≤ 13) ⌝ }
 {
     outputs_from(call) + outputs(call)
 }

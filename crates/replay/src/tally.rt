@@ -16,7 +16,7 @@ pub struct Counts {
 // Where the record at `at` ends.
 pub fn record_end(s: &[u8], at: usize) -> usize
     requires { ⌜ at ≤ 2 ^ 40 ⌝ }
-    ensures { λ r. ⌜ (r ≡ endOf (now (s .entry)) at) × (r ≤ at + 786448) ⌝ }
+    ensures { λ r. ⌜ (r ≡ endOf (now (s .entry)) at) × (r ≤ at + 851985) ⌝ }
 {
     stored::place(s, at, table::lists(stored::number_at(s, at)))
 }

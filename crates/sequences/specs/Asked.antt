@@ -131,7 +131,8 @@ callAgrees c st s at =
     cond (ltb c 5) (changeAgrees c st s at)
     (cond (ltb c 11) (askedAgrees c st s at)
     (cond (eqb c 11) (oneBlockAgrees st s at)
-    (keptAgrees st s at)))
+    (cond (eqb c 12) (keptAgrees st s at)
+    (changeAgrees c st s at))))
 
 unfoldable pub stepAgrees : State → List ℕ → ℕ → Bool
 stepAgrees st s at = callAgrees (numberAt s at) st s at

@@ -9,8 +9,9 @@ use Rattle.state_calls.specs.declared.state.Outcome.{Outcome}
 use Rattle.state_calls.specs.State.{emptyState}
 use Rattle.state_calls.specs.Load.{loadOf}
 use Rattle.state_calls.specs.Party.{setGoalsOf, resetStateOf, updateStateOf}
+use Rattle.state_calls.specs.Weights.{setWeightsOf}
 use Rattle.stored_answers.specs.Stored.{listOf}
-use Rattle.sequences.specs.Table.{sizesList, codesList, floatsList, limitsList, goalsList}
+use Rattle.sequences.specs.Table.{sizesList, codesList, floatsList, limitsList, goalsList, weightsList}
 use Rattle.sequences.specs.Lists.{jointsAt}
 
 abbrev pub loadAt : State → List ℕ → ℕ → Outcome
@@ -26,11 +27,15 @@ resetAt st s at = resetStateOf st (jointsAt s at)
 abbrev pub updateAt : State → List ℕ → ℕ → Outcome
 updateAt st s at = updateStateOf st (jointsAt s at)
 
+-- the weights are stored as goals are
+abbrev pub setWeightsAt : State → List ℕ → ℕ → Outcome
+setWeightsAt st s at = setWeightsOf st (floatsIn 64 (listOf s at weightsList))
+
 abbrev pub outcomeIf : Bool → Outcome → Outcome → Outcome
 outcomeIf true a b = a
 outcomeIf false a b = b
 
--- by the record's call: 0 begins anew, 1 to 4 are the calls above, and every other leaves the state
+-- by the record's call: 0 begins anew, 1 to 4 and 13 are the calls above, and every other leaves the state
 unfoldable pub outcomeAt : ℕ → State → List ℕ → ℕ → Outcome
 outcomeAt c st s at =
     outcomeIf (eqb c 0) (record { number = 0; state = emptyState })
@@ -38,4 +43,5 @@ outcomeAt c st s at =
     (outcomeIf (eqb c 2) (setGoalsAt st s at)
     (outcomeIf (eqb c 3) (resetAt st s at)
     (outcomeIf (eqb c 4) (updateAt st s at)
-    (record { number = 0; state = st })))))
+    (outcomeIf (eqb c 13) (setWeightsAt st s at)
+    (record { number = 0; state = st }))))))

@@ -8,7 +8,7 @@ use Rattle.state_calls.specs.declared.state.State.{State}
 use Rattle.state_calls.specs.State.{emptyState}
 use Rattle.stored_answers.specs.Stored.{numberAt}
 use Rattle.stored_answers.specs.Records.{endBy, recordBy, casesBy, differBy, damageBy}
-use Rattle.sequences.specs.Table.{listsOf}
+use Rattle.sequences.specs.Table.{lastCall, listsOf}
 use Rattle.sequences.specs.Changes.{outcomeAt}
 use Rattle.sequences.specs.Asked.{stepAgrees}
 
@@ -39,9 +39,9 @@ casesOf s c = casesBy listsOf s c
 abbrev pub differOf : List ℕ → ℕ → ℕ
 differOf s c = differBy listsOf (agreesAt s) s c
 
--- the calls are 0 to 12
+-- what is wrong with a list
 abbrev pub damageOf : List ℕ → ℕ
-damageOf s = damageBy listsOf 12 s
+damageOf s = damageBy listsOf lastCall s
 
 -- ---- law
 pub state-next : (s : List ℕ) (i : ℕ) → stateAt s (i + 1) ≡ afterOf (stateAt s i) s (recordAt s i)

@@ -3,6 +3,14 @@ use mathlib.Core.Bool.{cond}
 use Prim.Native.Nat.{ℕ, _+_}
 use lib.Dec.{eqb}
 
+-- the calls are 0 to the last one
+abbrev pub lastCall : ℕ
+lastCall = 13
+
+-- how many they are
+abbrev pub calls : ℕ
+calls = lastCall + 1
+
 -- load
 abbrev pub sizesList : ℕ
 sizesList = 0
@@ -20,6 +28,10 @@ limitsList = floatsList + 1
 abbrev pub goalsList : ℕ
 goalsList = 0
 
+-- set_weights
+abbrev pub weightsList : ℕ
+weightsList = 0
+
 -- every other call but `kept` has a joint block, and its outputs from here on
 abbrev pub jointsList : ℕ
 jointsList = 0
@@ -32,8 +44,8 @@ abbrev pub keptLists : ℕ
 keptLists = 0
 
 -- how many lists a record of step c has: 0 begins a sequence; 1 load, 2 set_goals, 3 reset, 4 update; 5 frames, 6 pose, 7 manipulability, 8 objective, 9 gradient,
--- 10 gradient_finite_diff, 11 gradient_one_block; 12 what the state keeps
+-- 10 gradient_finite_diff, 11 gradient_one_block; 12 what the state keeps; 13 set_weights
 unfoldable pub listsOf : ℕ → ℕ
 listsOf c =
     cond (eqb c 0) 0 (cond (eqb c 1) 4 (cond (eqb c 2) 1 (cond (eqb c 3) 1 (cond (eqb c 4) 1 (cond (eqb c 5) 3
-    (cond (eqb c 6) 2 (cond (eqb c 7) 2 (cond (eqb c 8) 2 (cond (eqb c 9) 4 (cond (eqb c 10) 4 (cond (eqb c 11) 7 6)))))))))))
+    (cond (eqb c 6) 2 (cond (eqb c 7) 2 (cond (eqb c 8) 2 (cond (eqb c 9) 4 (cond (eqb c 10) 4 (cond (eqb c 11) 7 (cond (eqb c 12) 6 1))))))))))))

@@ -6,10 +6,11 @@ use state_calls::party;
 use state_calls::state;
 use state_calls::state::Outcome;
 use state_calls::state::State;
+use state_calls::weights;
 use stored_answers::stored::list;
 ghost use mathlib.Core.Path.{_≡_};
 ghost use Prim.Native.Nat.{_≤_, _^_};
-ghost use Rattle.sequences.specs.Changes.{loadAt, setGoalsAt, resetAt, updateAt, outcomeAt};
+ghost use Rattle.sequences.specs.Changes.{loadAt, setGoalsAt, resetAt, updateAt, setWeightsAt, outcomeAt};
 
 fn load_stored(state: State, s: &[u8], at: usize) -> Outcome
     requires { ⌜ at ≤ 2 ^ 40 ⌝ }
@@ -53,6 +54,15 @@ fn update(state: State, s: &[u8], at: usize) -> Outcome
     party::update(state, &joints[..n])
 }
 
+fn set_weights(state: State, s: &[u8], at: usize) -> Outcome
+    requires { ⌜ at ≤ 2 ^ 40 ⌝ }
+    ensures { λ r. ⌜ r ≡ setWeightsAt state (now (s .entry)) at ⌝ }
+{
+    let mut weights = [0.0; 64];
+    let n = lent::floats(list(s, at, table::WEIGHTS), &mut weights);
+    weights::set_weights(state, &weights[..n])
+}
+
 // What step `call` answers, and the state after it.
 pub fn outcome(call: usize, state: State, s: &[u8], at: usize) -> Outcome
     requires { ⌜ at ≤ 2 ^ 40 ⌝ }
@@ -70,6 +80,7 @@ pub fn outcome(call: usize, state: State, s: &[u8], at: usize) -> Outcome
         2 => return set_goals(state, s, at),
         3 => return reset(state, s, at),
         4 => return update(state, s, at),
+        13 => return set_weights(state, s, at),
         _ => {
             return Outcome {
                 number: 0,

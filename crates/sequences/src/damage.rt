@@ -1,20 +1,21 @@
 // Whether a list is whole: its records are all there, of known calls, and nothing is behind them.
+use crate::table;
 use crate::tally;
 use stored_answers::stored;
 ghost use mathlib.Core.Path.{_≡_};
 ghost use Prim.Native.Nat.{_≤_, _^_};
 ghost use Rattle.stored_answers.specs.Records.{damageAt};
-ghost use Rattle.sequences.specs.Table.{listsOf};
+ghost use Rattle.sequences.specs.Table.{lastCall, listsOf};
 ghost use Rattle.sequences.specs.Steps.{damageOf};
 
 fn record_damage(s: &[u8], at: usize) -> usize
     requires { ⌜ at ≤ 2 ^ 40 ⌝ }
-    ensures { λ r. ⌜ r ≡ damageAt listsOf 12 (now (s .entry)) at ⌝ }
+    ensures { λ r. ⌜ r ≡ damageAt listsOf lastCall (now (s .entry)) at ⌝ }
 {
     if s.len() < at + 4 {
         return 1;
     }
-    if 12 < stored::number_at(s, at) {
+    if table::LAST < stored::number_at(s, at) {
         return 2;
     }
     if s.len() < tally::record_end(s, at) {

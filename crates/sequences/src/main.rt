@@ -11,6 +11,9 @@ mod tally;
 
 use libc::STDOUT_FILENO;
 
+// The room for the list, in bytes.
+const ROOM: usize = 400000;
+
 fn play(s: &[u8]) {
     let found = damage::damage(s);
     if found == 1 {
@@ -32,9 +35,9 @@ fn play(s: &[u8]) {
 }
 
 fn main() {
-    let mut list = [0u8; 400000];
+    let mut list = [0u8; ROOM];
     let n = io::read_full(libc::STDIN_FILENO, &mut list);
-    if n == 400000 {
+    if n == ROOM {
         io::write_all(STDOUT_FILENO, b"the list is longer than the room for it\n");
         return;
     }

@@ -15,6 +15,7 @@ pub fn print_name(call: usize) -> bool {
         9 => return io::write_all(STDOUT_FILENO, b"gradient"),
         10 => return io::write_all(STDOUT_FILENO, b"gradient_finite_diff"),
         11 => return io::write_all(STDOUT_FILENO, b"gradient_one_block"),
-        _ => return io::write_all(STDOUT_FILENO, b"kept"),
+        12 => return io::write_all(STDOUT_FILENO, b"kept"),
+        _ => return io::write_all(STDOUT_FILENO, b"set_weights"),
     }
 }

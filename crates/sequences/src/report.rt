@@ -1,10 +1,12 @@
 // A line for each call, with its counts, on standard output.
 use crate::names;
+use crate::table;
 use crate::tally;
 use crate::tally::Counts;
 use libc::STDOUT_FILENO;
 ghost use mathlib.Core.Path.{_≡_};
 ghost use Rattle.stored_answers.specs.Records.{sumOf};
+ghost use Rattle.sequences.specs.Table.{calls};
 ghost use Rattle.sequences.specs.Steps.{casesOf, differOf};
 
 fn print_counts(t: Counts) {
@@ -17,14 +19,14 @@ fn print_counts(t: Counts) {
 
 // A line for each call; the sums over all of them.
 fn each_call(s: &[u8]) -> Counts
-    ensures { λ r. ⌜ (r .cases ≡ sumOf (casesOf (now (s .entry))) 13) × (r .differ ≡ sumOf (differOf (now (s .entry))) 13) ⌝ }
+    ensures { λ r. ⌜ (r .cases ≡ sumOf (casesOf (now (s .entry))) calls) × (r .differ ≡ sumOf (differOf (now (s .entry))) calls) ⌝ }
 {
     let mut all = Counts {
         cases: 0,
         differ: 0,
     };
     let mut call: usize = 0;
-    while call < 13 {
+    while call < table::CALLS {
         let t = tally::tally(s, call);
         names::print_name(call);
         print_counts(t);
@@ -38,7 +40,7 @@ fn each_call(s: &[u8]) -> Counts
 }
 
 pub fn report(s: &[u8]) -> Counts
-    ensures { λ r. ⌜ (r .cases ≡ sumOf (casesOf (now (s .entry))) 13) × (r .differ ≡ sumOf (differOf (now (s .entry))) 13) ⌝ }
+    ensures { λ r. ⌜ (r .cases ≡ sumOf (casesOf (now (s .entry))) calls) × (r .differ ≡ sumOf (differOf (now (s .entry))) calls) ⌝ }
 {
     let all = each_call(s);
     io::write_all(STDOUT_FILENO, b"all");

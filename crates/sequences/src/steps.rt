@@ -161,7 +161,10 @@ pub fn agrees(state: State, s: &[u8], at: usize) -> bool
     if call == 11 {
         return gradient_one_block(state, s, at);
     }
-    asked::kept(state, s, at)
+    if call == 12 {
+        return asked::kept(state, s, at);
+    }
+    changed(call, state, s, at)
 }
 
 // The state after the step at `at`.

@@ -3,6 +3,10 @@ ghost use mathlib.Core.Path.{_≡_};
 ghost use Prim.Native.Nat.{_≤_};
 ghost use Rattle.sequences.specs.Table.{listsOf};
 
+// the calls are 0 to the last one
+pub const LAST: usize = 13;
+// how many they are
+pub const CALLS: usize = LAST + 1;
 // load
 pub const SIZES: usize = 0;
 
@@ -13,6 +17,8 @@ pub const FLOATS: usize = CODES + 1;
 pub const LIMITS: usize = FLOATS + 1;
 // set_goals
 pub const GOALS: usize = 0;
+// set_weights
+pub const WEIGHTS: usize = 0;
 // every other call but `kept`
 pub const JOINTS: usize = 0;
 
@@ -57,6 +63,7 @@ pub fn lists(call: usize) -> usize
         9 => return 4,
         10 => return 4,
         11 => return 7,
-        _ => return 6,
+        12 => return 6,
+        _ => return 1,
     }
 }

@@ -9,3 +9,4 @@ pub mod Objective
 pub mod OneBlock
 pub mod Numbers
 pub mod Planned
+pub mod Weights

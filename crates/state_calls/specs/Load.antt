@@ -1,4 +1,5 @@
--- Loading: the sheet is stored, each list with zeros behind it; goals and history are cleared. A refusal keeps the old state.
+-- Loading: the sheet is stored, each list with zeros behind it; goals and history are cleared, weights are kept. A refusal keeps the old state.
+use mathlib.Core.Path.{_≡_, refl}
 use mathlib.Core.Bool.{Bool, true, false}
 use mathlib.Core.List.{List}
 use Prim.Native.Nat.{ℕ}
@@ -30,4 +31,13 @@ outcomeOf number old new = record { number = number; state = stateIf (eqb number
 
 unfoldable pub loadOf : State → List ℕ → List ℕ → List Float → List Float → Outcome
 loadOf s sizes codes floats limits =
-    outcomeOf (loadRefusal sizes codes floats limits) s (record { arms = armsOf sizes codes floats limits; party = emptyParty })
+    outcomeOf (loadRefusal sizes codes floats limits) s (record { arms = armsOf sizes codes floats limits; weights = s .weights; party = emptyParty })
+
+-- ---- laws: what a change leaves alone is kept, refused or not
+pub outcome-keeps : {A : Type 0} (part : State → A) (number : ℕ) (old new : State) → part new ≡ part old → part (outcomeOf number old new .state) ≡ part old
+unfolding outcomeOf
+outcome-keeps {A} part number old new same = pick (eqb number 0)
+  where
+    pick : (t : Bool) → part (stateIf t new old) ≡ part old
+    pick true = same
+    pick false = refl

@@ -66,7 +66,7 @@ module _ (sizes codes : List ℕ) (floats limits : List Float) (e : loadRefusal 
       let w : 7 * total (linksUsed ss) ≡ length floats = ap (λ (k : ℕ). 7 * k) total-kept ∙ sym (shape .wide) in
       rw (le-ltb 4 (getD ss 0 0) (omega (arith, chains-kept, shape .sized .few)), le-ltb 64 (total (linksUsed ss)) (omega (arith, total-kept, shape .most)), sizes-kept, codes-kept, w, z)
 
--- an accepted load: the sheet and its limits are in the state, and nothing else is
+-- an accepted load: the sheet and its limits are in the state, and no goals, no start and no history (weights are as they were: Weights.antt)
 pub record Loaded (sizes codes : List ℕ) (floats limits : List Float) (s : State) : Type 0 where
   pub have : haveSheet (s .arms .sizes) (s .arms .codes) ≡ true
   pub chains : getD (s .arms .sizes) 0 0 ≡ chainsOf sizes

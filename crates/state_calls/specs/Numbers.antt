@@ -1,5 +1,5 @@
 -- Each call on the state gets the lowest number of a condition that holds, the state's before the input's, and is accepted where none holds.
--- (Loading asks no state: load-lowest of refusals/specs/Rows.antt says it of loading.)
+-- (Loading and setting weights ask no state: load-lowest and weights-lowest of refusals/specs/Rows.antt say it of them.)
 use mathlib.Core.Path.{_≡_, refl, sym, ap, _∙_}
 use mathlib.Core.Bool.{Bool, true, false, cond, not}
 use mathlib.Core.List.{List, [], _∷_}

@@ -1,15 +1,16 @@
 -- The objective and its gradients, by the state.
-use mathlib.Core.Path.{_≡_, refl, ap, _∙_}
+use mathlib.Core.Path.{_≡_, ap, _∙_}
 use mathlib.Core.Bool.{true}
 use mathlib.Core.List.{List}
 use Prim.Native.Nat.{ℕ}
 use native.Mathlib.Omega.{arith}
 use lib.Ieee.{Float}
-use lib.ListN.{length}
+use lib.ListN.{length, take}
+use lib.Seq.{take-all}
 use Rattle.lists.specs.Splice.{splice}
 use Rattle.task.specs.Task.{taskLength, Given}
 use Rattle.task.specs.Laid.{Apart, Fit, Full, laid, givenApart, laid-given}
-use Rattle.objective_master.specs.Weights.{weightPriors, weights-eight}
+use Rattle.objective_master.specs.Weights.{in-force-eight}
 use Rattle.gradient.specs.declared.slopes.Rule.{Rule}
 use Rattle.gradient.specs.Gradient.{valueAt, slopesOf, gradientOf, finiteDiffOf}
 use Rattle.calls.specs.Arms.{Accepted, ifTaken}
@@ -17,9 +18,9 @@ use Rattle.calls.specs.Answer.{valueIf}
 use Rattle.state_calls.specs.declared.state.State.{State}
 use Rattle.state_calls.specs.State.{linksUsed, codesUsed, floatsUsed, limitsUsed, goalsUsed, blockUsed, haveSheet}
 use Rattle.state_calls.specs.StoredSheet.{stored-accepted}
-use Rattle.state_calls.specs.StoredTask.{objectiveStored, slopesStored, afterState, givenStored, apartOf, state-have, value-under, taken-under}
+use Rattle.state_calls.specs.StoredTask.{objectiveStored, slopesStored, afterState, givenStored, weightsInForce, apartOf, state-have, value-under, taken-under}
 
--- what the objectives look at: the sheet, the built-in weights, and of the stored lists what is in use
+-- what the objectives look at: the sheet, the weights in force, and of the stored lists what is in use
 unfoldable pub givenState : State → Given
 givenState s =
     let ss = s .arms .sizes in
@@ -28,7 +29,7 @@ givenState s =
     record {
       counts = linksUsed ss;
       codes = codesUsed ss cs;
-      weights = weightPriors;
+      weights = weightsInForce (s .weights);
       limits = limitsUsed ss cs (s .arms .limits);
       goals = goalsUsed ss (s .party .goals);
       xopt = blockUsed ss cs (h .xopt);
@@ -62,17 +63,23 @@ pub record Lists (s : State) : Type 0 where
   pub codes : length (s .arms .codes) ≡ 64
   pub floats : length (s .arms .floats) ≡ 448
   pub limits : length (s .arms .limits) ≡ 32
+  pub weights : length (s .weights .list) ≡ 8
   pub goals : length (s .party .goals) ≡ 52
   pub xopt : length (s .party .history .xopt) ≡ 16
   pub «prev_state» : length (s .party .history .«prev_state») ≡ 16
   pub «prev_state2» : length (s .party .history .«prev_state2») ≡ 16
 
 -- ---- laws: a call that is taken sees this in the list that the stored arrays are laid in
-given-apart : (s : State) → givenApart (linksUsed (s .arms .sizes)) (codesUsed (s .arms .sizes) (s .arms .codes)) (apartOf (s .arms .limits) (s .party)) ≡ givenState s
-unfolding givenApart givenState limitsUsed goalsUsed blockUsed weightPriors
-given-apart s = refl
+weights-whole : (s : State) → Lists s → length (weightsInForce (s .weights)) ≡ 8
+weights-whole s l = in-force-eight (s .weights .loaded) (s .weights .list) (l .weights)
 
-module _ (s : State) (t task : List Float) (l : Lists s) (whole : length t ≡ taskLength) (e : task ≡ laid (apartOf (s .arms .limits) (s .party)) t) where
+given-apart : (s : State) → Lists s → givenApart (linksUsed (s .arms .sizes)) (codesUsed (s .arms .sizes) (s .arms .codes)) (apartOf (s .weights) (s .arms .limits) (s .party)) ≡ givenState s
+unfolding givenApart givenState limitsUsed goalsUsed blockUsed
+given-apart s l =
+    let e : take 8 (weightsInForce (s .weights)) ≡ weightsInForce (s .weights) = take-all 8 _ (omega (arith, weights-whole s l)) in
+    rw e
+
+module _ (s : State) (t task : List Float) (l : Lists s) (whole : length t ≡ taskLength) (e : task ≡ laid (apartOf (s .weights) (s .arms .limits) (s .party)) t) where
   abbrev ss : List ℕ
   ss = s .arms .sizes
 
@@ -82,11 +89,12 @@ module _ (s : State) (t task : List Float) (l : Lists s) (whole : length t ≡ t
   given-laid : haveSheet ss cs ≡ true → givenStored ss cs task ≡ givenState s
   unfolding givenStored
   given-laid have =
-      let a : Apart = apartOf (s .arms .limits) (s .party) in
+      let a : Apart = apartOf (s .weights) (s .arms .limits) (s .party) in
+      let w : length (weightsInForce (s .weights)) ≡ 8 = weights-whole s l in
       let p : Accepted (linksUsed ss) (codesUsed ss cs) (floatsUsed ss (s .arms .floats)) = stored-accepted ss cs (s .arms .floats) (l .codes) (l .floats) have in
-      let fit : Fit a = record { weights = omega (arith, weights-eight); limits = omega (arith, l .limits); goals = omega (arith, l .goals); xopt = omega (arith, l .xopt); «prev_state» = omega (arith, l .«prev_state»); «prev_state2» = omega (arith, l .«prev_state2») } in
-      let full : Full (linksUsed ss) (codesUsed ss cs) a = record { weights = omega (arith, weights-eight); limits = omega (arith, l .limits, p .few); goals = omega (arith, l .goals, p .chains .few); xopt = omega (arith, l .xopt, p .few); «prev_state» = omega (arith, l .«prev_state», p .few); «prev_state2» = omega (arith, l .«prev_state2», p .few) } in
-      ap (givenStored ss cs) e ∙ laid-given a t whole fit (linksUsed ss) (codesUsed ss cs) full (p .chains .few) (p .few) ∙ given-apart s
+      let fit : Fit a = record { weights = omega (arith, w); limits = omega (arith, l .limits); goals = omega (arith, l .goals); xopt = omega (arith, l .xopt); «prev_state» = omega (arith, l .«prev_state»); «prev_state2» = omega (arith, l .«prev_state2») } in
+      let full : Full (linksUsed ss) (codesUsed ss cs) a = record { weights = omega (arith, w); limits = omega (arith, l .limits, p .few); goals = omega (arith, l .goals, p .chains .few); xopt = omega (arith, l .xopt, p .few); «prev_state» = omega (arith, l .«prev_state», p .few); «prev_state2» = omega (arith, l .«prev_state2», p .few) } in
+      ap (givenStored ss cs) e ∙ laid-given a t whole fit (linksUsed ss) (codesUsed ss cs) full (p .chains .few) (p .few) ∙ given-apart s l
 
   -- so does a call with number n, whose own number is m
   module _ (x : List Float) (m n : ℕ) (number : n ≡ afterState ss cs (s .party .«has_goals») (s .party .started) m) where

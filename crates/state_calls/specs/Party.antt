@@ -18,6 +18,10 @@ use Rattle.state_calls.specs.Load.{outcomeOf}
 use Rattle.state_calls.specs.StoredSheet.{blockStored, goalsStored, updateStored, there}
 use Rattle.state_calls.specs.Arms.{posesOf}
 
+-- another party over the same arms and weights
+abbrev withParty : State → Party → State
+withParty s p = record { arms = s .arms; weights = s .weights; party = p }
+
 -- goals, zeros behind them
 unfoldable pub withGoals : Party → List Float → Party
 withGoals p goals = record {
@@ -30,7 +34,7 @@ withGoals p goals = record {
 
 -- set goals: 20, then 8
 unfoldable pub setGoalsOf : State → List Float → Outcome
-setGoalsOf s goals = outcomeOf (goalsStored (s .arms .sizes) (s .arms .codes) goals) s (record { arms = s .arms; party = withGoals (s .party) goals })
+setGoalsOf s goals = outcomeOf (goalsStored (s .arms .sizes) (s .arms .codes) goals) s (withParty s (withGoals (s .party) goals))
 
 -- a start: the history is the block four times, and the end poses are kept, zeros behind them
 unfoldable pub withStart : Party → List Float → List Float → Party
@@ -46,7 +50,7 @@ withStart p x ends = record {
 unfoldable pub resetStateOf : State → List Float → Outcome
 resetStateOf s x =
     outcomeOf (blockStored (s .arms .sizes) (s .arms .codes) x) s
-    (record { arms = s .arms; party = withStart (s .party) x (endsOf (linksUsed (s .arms .sizes)) (posesOf s x)) })
+    (withParty s (withStart (s .party) x (endsOf (linksUsed (s .arms .sizes)) (posesOf s x))))
 
 -- one block more: the others move one back
 unfoldable pub withBlock : Party → List Float → Party
@@ -61,7 +65,7 @@ withBlock p x = record {
 -- update: 20, then 22, then 7
 unfoldable pub updateStateOf : State → List Float → Outcome
 updateStateOf s x =
-    outcomeOf (updateStored (s .arms .sizes) (s .arms .codes) (s .party .started) x) s (record { arms = s .arms; party = withBlock (s .party) x })
+    outcomeOf (updateStored (s .arms .sizes) (s .arms .codes) (s .party .started) x) s (withParty s (withBlock (s .party) x))
 
 -- ---- laws: what is accepted fits the arrays
 pub goals-fit : (ss cs : List ℕ) (goals : List Float) → goalsStored ss cs goals ≡ 0 → length goals ≤ 52

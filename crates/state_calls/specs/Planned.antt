@@ -22,7 +22,7 @@ use Rattle.sizing.specs.Planned.{FramesRoom, FramesShort, RecordRoom, RecordSho
 use Rattle.state_calls.specs.declared.state.Arms.{Arms}
 use Rattle.state_calls.specs.declared.state.State.{State}
 use Rattle.state_calls.specs.State.{linksUsed, codesUsed, haveSheet}
-use Rattle.state_calls.specs.Load.{loadOf, outcomeOf}
+use Rattle.state_calls.specs.Load.{loadOf, outcomeOf, outcome-keeps}
 use Rattle.state_calls.specs.Loaded.{Loaded, loaded}
 use Rattle.state_calls.specs.Party.{setGoalsOf, resetStateOf, updateStateOf}
 use Rattle.state_calls.specs.StoredSheet.{ifArms, framesStored}
@@ -44,26 +44,18 @@ holds-loaded s sizes codes floats limits e =
     let l : Loaded sizes codes floats limits (loadOf s sizes codes floats limits .state) = loaded s sizes codes floats limits e in
     record { have = l .have; links = l .links; same-codes = l .same-codes }
 
-arms-kept : (number : ℕ) (old new : State) → new .arms ≡ old .arms → outcomeOf number old new .state .arms ≡ old .arms
-unfolding outcomeOf
-arms-kept number old new same = pick (eqb number 0) refl
-  where
-    pick : (t : Bool) → eqb number 0 ≡ t → outcomeOf number old new .state .arms ≡ old .arms
-    pick true q = rw q same
-    pick false q = rw q refl
-
 module _ (s : State) (x : List Float) where
   pub set-goals-keeps-arms : setGoalsOf s x .state .arms ≡ s .arms
   unfolding setGoalsOf
-  set-goals-keeps-arms = arms-kept _ s _ refl
+  set-goals-keeps-arms = outcome-keeps (λ t. t .arms) _ s _ refl
 
   pub reset-keeps-arms : resetStateOf s x .state .arms ≡ s .arms
   unfolding resetStateOf
-  reset-keeps-arms = arms-kept _ s _ refl
+  reset-keeps-arms = outcome-keeps (λ t. t .arms) _ s _ refl
 
   pub update-keeps-arms : updateStateOf s x .state .arms ≡ s .arms
   unfolding updateStateOf
-  update-keeps-arms = arms-kept _ s _ refl
+  update-keeps-arms = outcome-keeps (λ t. t .arms) _ s _ refl
 
 module _ (s : State) (sizes codes : List ℕ) (floats limits : List Float) where
   pub refused-load-keeps-arms : (loadOf s sizes codes floats limits .number ≡ 0 → ⊥) → loadOf s sizes codes floats limits .state .arms ≡ s .arms

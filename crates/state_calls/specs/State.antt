@@ -11,6 +11,7 @@ use Rattle.standins.specs.Num.{nought}
 use Rattle.sheet.specs.Chain.{total, joints}
 use Rattle.refusals.specs.Refusal.{shapeRefusal}
 use Rattle.state_calls.specs.declared.state.Arms.{Arms}
+use Rattle.state_calls.specs.declared.state.Weights.{Weights}
 use Rattle.state_calls.specs.declared.state.Party.{Party}
 use Rattle.state_calls.specs.declared.state.State.{State}
 use Rattle.state_calls.specs.declared.state.Counts.{Counts}
@@ -31,8 +32,11 @@ emptyParty = record {
 unfoldable pub emptyArms : Arms
 emptyArms = record { sizes = replicate 5 0; codes = replicate 64 0; floats = zeros 448; limits = zeros 32 }
 
+unfoldable pub noWeights : Weights
+noWeights = record { loaded = false; list = zeros 8 }
+
 unfoldable pub emptyState : State
-emptyState = record { arms = emptyArms; party = emptyParty }
+emptyState = record { arms = emptyArms; weights = noWeights; party = emptyParty }
 
 -- ---- the sheet in the state: the chain count says how much of each list is in use
 unfoldable pub sizesUsed : List ℕ → List ℕ

@@ -14,13 +14,14 @@ use Rattle.task.specs.Task.{taskLength, Given, givenOf}
 use Rattle.task.specs.Laid.{Apart, apart}
 use Rattle.refusals.specs.Lowest.{firstOf, first-zero, first-some, first-none}
 use Rattle.refusals.specs.Refusal.{shapeRefusal, blockRefusal}
-use Rattle.objective_master.specs.Weights.{weightPriors}
+use Rattle.objective_master.specs.Weights.{inForce}
 use Rattle.gradient.specs.Gradient.{valueAt, gradientOf}
 use Rattle.calls.specs.Arms.{ifTaken}
 use Rattle.calls.specs.Answer.{valueIf}
 use Rattle.calls.specs.AcceptedTask.{AcceptedTask, slopesRefusal, shape-task}
 use Rattle.state_calls.specs.State.{sizesUsed, linksUsed, codesUsed, floatsUsed, haveSheet, countsOf, counts-loaded, Stored, stored}
 use Rattle.state_calls.specs.StoredSheet.{drop-take, Used, used, links-part, codes-part, floats-part}
+use Rattle.state_calls.specs.declared.state.Weights.{Weights}
 use Rattle.state_calls.specs.declared.state.Party.{Party}
 use Rattle.state_calls.specs.declared.state.Counts.{Counts}
 
@@ -59,9 +60,13 @@ pub record Arrays (ss cs : List ℕ) (gs task : List Float) : Type 0 where
   pub floats : length gs ≡ 448
   pub whole : length task ≡ taskLength
 
--- the lists that are laid: the built-in weights, the limits, and what the party has set
-abbrev pub apartOf : List Float → Party → Apart
-apartOf limits p = apart weightPriors limits (p .goals) (p .history .xopt) (p .history .«prev_state») (p .history .«prev_state2»)
+-- the weights in force
+abbrev pub weightsInForce : Weights → List Float
+weightsInForce w = inForce (w .loaded) (w .list)
+
+-- the lists that are laid: the weights in force, the limits, and what the party has set
+abbrev pub apartOf : Weights → List Float → Party → Apart
+apartOf w limits p = apart (weightsInForce w) limits (p .goals) (p .history .xopt) (p .history .«prev_state») (p .history .«prev_state2»)
 
 -- ---- laws
 state-arms : (arms goals started : Bool) → stateNumber arms goals started ≡ 0 → arms ≡ true

@@ -7,3 +7,4 @@ pub mod party;
 pub mod state;
 mod stored_sheet;
 mod stored_task;
+pub mod weights;

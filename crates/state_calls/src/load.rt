@@ -29,7 +29,7 @@ fn stored(sizes: &[u16], codes: &[u16], floats: &[f64], limits: &[f64]) -> Arms
     }
 }
 
-// Takes a sheet; goals and history are cleared.
+// Takes a sheet; goals and history are cleared, weights are kept.
 pub fn load(state: State, sizes: &[u16], codes: &[u16], floats: &[f64], limits: &[f64]) -> Outcome
     ensures { λ r. ⌜ r ≡ loadOf state (now (sizes .entry)) (now (codes .entry)) (now (floats .entry)) (now (limits .entry)) ⌝ }
 {
@@ -41,9 +41,11 @@ pub fn load(state: State, sizes: &[u16], codes: &[u16], floats: &[f64], limits: 
         };
     }
     let arms = stored(sizes, codes, floats, limits);
+    let weights = state.weights;
     let party = state::empty_party();
     let loaded = State {
         arms: arms,
+        weights: weights,
         party: party,
     };
     Outcome {

@@ -24,9 +24,10 @@ pub fn objective(state: State, joints: &[f64]) -> Answer
     let codes = arms.codes;
     let floats = arms.floats;
     let limits = arms.limits;
+    let weights = state.weights;
     let party = state.party;
     let mut task = [0.0; task::LENGTH];
-    stored_task::lay_task(&limits, party, &mut task);
+    stored_task::lay_task(weights, &limits, party, &mut task);
     stored_task::objective_on(
         &sizes,
         &codes,
@@ -57,9 +58,10 @@ fn gradient_by(
     let codes = arms.codes;
     let floats = arms.floats;
     let limits = arms.limits;
+    let weights = state.weights;
     let party = state.party;
     let mut task = [0.0; task::LENGTH];
-    stored_task::lay_task(&limits, party, &mut task);
+    stored_task::lay_task(weights, &limits, party, &mut task);
     stored_task::gradient_on(
         rule,
         &sizes,

@@ -77,9 +77,10 @@ pub fn gradient_one_block(
     let codes = arms.codes;
     let floats = arms.floats;
     let limits = arms.limits;
+    let weights = state.weights;
     let party = state.party;
     let mut task = [0.0; task::LENGTH];
-    stored_task::lay_task(&limits, party, &mut task);
+    stored_task::lay_task(weights, &limits, party, &mut task);
     gradient_one_block_on(
         &sizes,
         &codes,

@@ -12,6 +12,7 @@ pub fn set_goals(state: State, goals: &[f64]) -> Outcome
     ensures { λ r. ⌜ r ≡ setGoalsOf state (now (goals .entry)) ⌝ }
 {
     let arms = state.arms;
+    let weights = state.weights;
     let sizes = arms.sizes;
     let codes = arms.codes;
     let number = stored_sheet::goals_on(&sizes, &codes, goals);
@@ -35,6 +36,7 @@ pub fn set_goals(state: State, goals: &[f64]) -> Outcome
     };
     let after = State {
         arms: arms,
+        weights: weights,
         party: party,
     };
     Outcome {
@@ -48,6 +50,7 @@ pub fn reset(state: State, joints: &[f64]) -> Outcome
     ensures { λ r. ⌜ r ≡ resetStateOf state (now (joints .entry)) ⌝ }
 {
     let arms = state.arms;
+    let weights = state.weights;
     let sizes = arms.sizes;
     let codes = arms.codes;
     let floats = arms.floats;
@@ -71,6 +74,7 @@ pub fn reset(state: State, joints: &[f64]) -> Outcome
     };
     let begun = State {
         arms: arms,
+        weights: weights,
         party: party,
     };
     Outcome {
@@ -84,6 +88,7 @@ pub fn update(state: State, joints: &[f64]) -> Outcome
     ensures { λ r. ⌜ r ≡ updateStateOf state (now (joints .entry)) ⌝ }
 {
     let arms = state.arms;
+    let weights = state.weights;
     let sizes = arms.sizes;
     let codes = arms.codes;
     let old = state.party;
@@ -106,6 +111,7 @@ pub fn update(state: State, joints: &[f64]) -> Outcome
     };
     let updated = State {
         arms: arms,
+        weights: weights,
         party: party,
     };
     Outcome {

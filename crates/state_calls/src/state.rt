@@ -14,6 +14,12 @@ pub struct Arms {
     pub limits: [f64; 32],
 }
 
+// A weight for each kind of objective, and whether they are loaded; until then the built-in ones serve.
+pub struct Weights {
+    pub loaded: bool,
+    pub list: [f64; 8],
+}
+
 // What one party sets over the arms: its goals, its history, and the end poses at its last reset.
 pub struct Party {
     pub has_goals: bool,
@@ -25,6 +31,7 @@ pub struct Party {
 
 pub struct State {
     pub arms: Arms,
+    pub weights: Weights,
     pub party: Party,
 }
 
@@ -71,8 +78,13 @@ pub fn empty() -> State
         floats: [0.0; 448],
         limits: [0.0; 32],
     };
+    let weights = Weights {
+        loaded: false,
+        list: [0.0; 8],
+    };
     State {
         arms: arms,
+        weights: weights,
         party: empty_party(),
     }
 }

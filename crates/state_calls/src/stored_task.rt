@@ -1,6 +1,7 @@
 // The objective and its gradients on stored goals and history: 20, 21 and 22 before the call's own numbers.
 use crate::state;
 use crate::state::Party;
+use crate::state::Weights;
 use calls::answer::Answer;
 use calls::slopes;
 use calls::value;
@@ -18,19 +19,20 @@ ghost use Rattle.calls.specs.AcceptedTask.{FrontIfTaken};
 ghost use Rattle.state_calls.specs.State.{floatsUsed};
 ghost use Rattle.state_calls.specs.StoredTask.{Arrays, stateNumber, objectiveStored, slopesStored, givenStored, valueStored, apartOf};
 
-// The built-in weights, the limits, and what the party has set, each at its place.
-pub(crate) fn lay_task(limits: &[f64; 32], party: Party, task: &mut [f64])
+// The weights in force, the limits, and what the party has set, each at its place.
+pub(crate) fn lay_task(kept: Weights, limits: &[f64; 32], party: Party, task: &mut [f64])
     requires { ⌜ length (now task) ≡ taskLength ⌝ }
-    ensures { λ _. ⌜ now (task .exit) ≡ laid (apartOf (lent limits) party) (lent task) ⌝ }
+    ensures { λ _. ⌜ now (task .exit) ≡ laid (apartOf kept (lent limits) party) (lent task) ⌝ }
 {
     let goals = party.goals;
     let history = party.history;
     let xopt = history.xopt;
     let prev_state = history.prev_state;
     let prev_state2 = history.prev_state2;
-    let priors = weights::weight_priors();
+    let list = kept.list;
+    let in_force = weights::in_force(kept.loaded, list);
     lay::lay_stored(
-        &priors,
+        &in_force,
         limits,
         &goals,
         &xopt,

@@ -30,7 +30,7 @@ fn part(s: &[u8], from: usize, n: usize) -> &[u8]
 
 // Where list k of the record at `at` begins.
 pub fn place(s: &[u8], at: usize, k: usize) -> usize
-    requires { ⌜ (at ≤ 2 ^ 40) × (k ≤ 12) ⌝ }
+    requires { ⌜ (at ≤ 2 ^ 40) × (k ≤ 20) ⌝ }
     ensures { λ r. ⌜ (r ≡ placeOf (now (s .entry)) at k) × (r ≤ at + 4 + 65537 * k) ⌝ }
 {
     let mut p = at + 4;
@@ -44,7 +44,7 @@ pub fn place(s: &[u8], at: usize, k: usize) -> usize
 
 // The bytes of list k of the record at `at`.
 pub fn list(s: &[u8], at: usize, k: usize) -> &[u8]
-    requires { ⌜ (at ≤ 2 ^ 40) × (k ≤ 12) ⌝ }
+    requires { ⌜ (at ≤ 2 ^ 40) × (k ≤ 20) ⌝ }
     ensures { λ r. ⌜ (now r ≡ listOf (now (s .entry)) at k) × (length (now r) < 65536) ⌝ }
 {
     let p = place(s, at, k);

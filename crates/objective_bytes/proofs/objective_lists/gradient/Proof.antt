@@ -9,20 +9,24 @@ use Rattle.lists.specs.Splice.{splice}
 use Rattle.calls.specs.Arms.{taken, refused}
 use Rattle.lent_bytes.specs.Lent.{front, bytesOf}
 use Rattle.lent_bytes.specs.SheetLists.{SheetLists, sheetWith}
+use Rattle.objective_bytes.specs.ObjectiveCalls.{TaskLists, taskWith}
 use Rattle.objective_bytes.specs.ObjectiveLaws.{Fitted, slopes-fitted, slopes-in-length}
 use borrow.Author.Needs.{needs}
 use Rattle.objective_bytes.proofs.objective_lists.gradient.Statement.{statement}
 use Rattle.objective_bytes.proofs.objective_lists.gradient.Tie as tie
 
 abbrev S : tie.Else1 → tie.Start
-S c = c .before .before .before .before .before .before .before .before .before .before .before .before
+S c = c .before .before .before .before .before .before .before .before .before .before .before .before .before
 
 abbrev sheet : tie.Start → SheetLists
 sheet s = sheetWith (now (s .args .sizes)) (now (s .args .codes)) (now (s .args .floats)) (now (s .args .limits))
 
+abbrev task : tie.Start → TaskLists
+task s = taskWith (now (s .args .goals)) (now (s .args .history)) (now (s .args .weights))
+
 -- what an accepted call knows
-fitted : (c : tie.Else1) → Fitted (sheet (S c)) (now (S c .args .goals)) (now (S c .args .history)) (now (S c .args .joints)) (length (now (S c .args .scratch))) (length (now (S c .args .value))) (length (now (S c .args .slopes)))
-fitted c = slopes-fitted (sheet (S c)) _ _ _ _ _ _ (sym (c .before .slopes-number .ensures) ∙ c .if1 .left)
+fitted : (c : tie.Else1) → Fitted (sheet (S c)) (task (S c)) (now (S c .args .joints)) (length (now (S c .args .scratch))) (length (now (S c .args .value))) (length (now (S c .args .slopes)))
+fitted c = slopes-fitted (sheet (S c)) _ _ _ _ _ (sym (c .before .slopes-number .ensures) ∙ c .if1 .left)
 
 slopes-number-requires : tie.Need-slopes-number-requires
 slopes-number-requires c κs = search needs
@@ -51,7 +55,7 @@ put-answers-requires : tie.Need-put-answers-requires
 put-answers-requires c κs =
     let t = fitted (c .before .before .before .before .before .before .before .before .before .before) in
     let g = c .before .before .before .before .before .before .before .slopes-on in
-    ((omega (arith, t .few, g .kept .1 .1 .1 .1 .1 .1 .1 .1 .0), omega (arith, t .few, g .kept .1 .1 .1 .1 .1 .1 .1 .1 .1 .0)), (t .scratch, t .value, t .slopes))
+    ((omega (arith, t .few, g .kept .1 .1 .1 .1 .1 .1 .1 .1 .1 .0), omega (arith, t .few, g .kept .1 .1 .1 .1 .1 .1 .1 .1 .1 .1 .0)), (t .scratch, t .value, t .slopes))
 
 same-length : tie.Need-same-length
 same-length c = search needs
@@ -69,7 +73,7 @@ returns-2 c =
     let x = now (a .joints) in
     let g = c .before .before .before .before .before .before .before .before .before .before .before .before .before .before .slopes-on .ensures in
     let p = c .before .before .before .before .before .before .put-answers .ensures in
-    let l = slopes-in-length (a .rule) (sheet (S e)) (now (a .goals)) (now (a .history)) x in (
+    let l = slopes-in-length (a .rule) (sheet (S e)) (task (S e)) x in (
       sym (sym (e .before .slopes-number .ensures) ∙ e .if1 .left),
       (
         p .0 ∙ ap (λ (y : List Float). splice (now (a .scratch)) 0 (bytesOf y)) (front _ _ x (length x) (g .1 .1) refl) ∙ sym (taken 0 _ _ refl),

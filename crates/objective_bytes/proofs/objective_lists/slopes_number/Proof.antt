@@ -1,4 +1,4 @@
--- `slopes_number` meets its contract: 1 to 8, then 9 for each output.
+-- `slopes_number` meets its contract: 1 to 8, then 9 for each output, then 10.
 use mathlib.Core.Path.{ap, _∙_}
 use Rattle.refusals.specs.Lowest.{firstOf}
 use Rattle.refusals.specs.Refusal.{roomRefusal}
@@ -32,6 +32,9 @@ room-requires-3 c κs = search needs
 room-refusal-requires-3 : tie.Need-room-refusal-requires-3
 room-refusal-requires-3 c κs = search needs
 
+weights-refusal-requires : tie.Need-weights-refusal-requires
+weights-refusal-requires c κs = search needs
+
 first-of-requires : tie.Need-first-of-requires
 first-of-requires c κs = search needs
 
@@ -41,15 +44,21 @@ first-of-requires-2 c κs = search needs
 first-of-requires-3 : tie.Need-first-of-requires-3
 first-of-requires-3 c κs = search needs
 
+first-of-requires-4 : tie.Need-first-of-requires-4
+first-of-requires-4 c κs = search needs
+
 returns : tie.Need-returns
 unfolding slopesNumber
 returns c =
-    let n = c .before .before .before .before .before .before .before .before .before .block-length .ensures in
-    let first = c .before .before .before .before .before .before .before .room-refusal .ensures ∙ same-two roomRefusal n (c .before .before .before .before .before .before .before .before .room .ensures) in
-    let second = c .before .before .before .before .before .room-refusal2 .ensures ∙ ap (roomRefusal 1) (c .before .before .before .before .before .before .room2 .ensures) in
-    let third = c .before .before .before .room-refusal3 .ensures ∙ same-two roomRefusal n (c .before .before .before .before .room3 .ensures) in
-    c .first-of3 .ensures
-    ∙ same-two firstOf (c .before .before .before .before .before .before .before .before .before .before .task-number .ensures) (c .before .first-of2 .ensures ∙ same-two firstOf first (c .before .before .first-of .ensures ∙ same-two firstOf second third))
+    let n = c .before .before .before .before .before .before .before .before .before .before .before .block-length .ensures in
+    let first = c .before .before .before .before .before .before .before .before .before .room-refusal .ensures ∙ same-two roomRefusal n (c .before .before .before .before .before .before .before .before .before .before .room .ensures) in
+    let second = c .before .before .before .before .before .before .before .room-refusal2 .ensures ∙ ap (roomRefusal 1) (c .before .before .before .before .before .before .before .before .room2 .ensures) in
+    let third = c .before .before .before .before .before .room-refusal3 .ensures ∙ same-two roomRefusal n (c .before .before .before .before .before .before .room3 .ensures) in
+    c .first-of4 .ensures
+    ∙ same-two firstOf (c .before .before .before .before .before .before .before .before .before .before .before .before .task-number .ensures)
+    (c .before .first-of3 .ensures
+    ∙ same-two firstOf first
+    (c .before .before .first-of2 .ensures ∙ same-two firstOf second (c .before .before .before .first-of .ensures ∙ same-two firstOf third (c .before .before .before .before .weights-refusal .ensures))))
 
 pub slopes-number-spec : {M : Type 1} → statement M
 slopes-number-spec =
@@ -63,7 +72,9 @@ slopes-number-spec =
     room-refusal-requires-2
     room-requires-3
     room-refusal-requires-3
+    weights-refusal-requires
     first-of-requires
     first-of-requires-2
     first-of-requires-3
+    first-of-requires-4
     returns)

@@ -1,18 +1,41 @@
 -- `slopes_by` meets its contract: by what its calls ensure of the decoded lists.
+use mathlib.Core.Path.{ap, _∙_}
+use mathlib.Core.List.{List}
+use denote.Ref.{now}
+use lib.Ieee.{Float}
+use lib.ListN.{length}
+use Rattle.lists.specs.Splice.{splice}
+use Rattle.calls.specs.Arms.{ifTaken}
+use Rattle.lent_bytes.specs.Lent.{roomIn, bytesOf}
+use Rattle.lent_bytes.specs.SheetLists.{sheet-held, same-three}
+use Rattle.objective_bytes.specs.ObjectiveCalls.{taskWith, slopesNumber, objectiveValue, slopesIn}
 use borrow.Author.Needs.{needs}
-use Rattle.lent_bytes.specs.SheetLists.{sheet-held}
 use Rattle.objective_bytes.proofs.objectives.slopes_by.Statement.{statement}
 use Rattle.objective_bytes.proofs.objectives.slopes_by.Tie as tie
 
 returns : tie.Need-returns
 returns c =
-    rw (sheet-held (c .before .before .before .before .before .before .before .before .before .before .before .before .before .before .before .before .before .before .before .before .before .decode .ensures), c .before .before .before .before .before .before .before .before .before .before .before .before .before .before .before .before .before .decode2 .ensures .of-goals .held, c .before .before .before .before .before .before .before .before .before .before .before .before .before .before .before .before .before .decode2 .ensures .of-history .held, c .before .before .before .before .before .before .before .before .before .before .before .before .before .before .before .before .before .decode2 .ensures .of-joints .held)
-    at (c .before .before .before .before .before .before .gradient .ensures)
+    let w = c .before .before .before .before .before .before .gradient in
+    let a = c .before .before .before .before .before .before .before .before .before .before .before .before .before .before .before .before .before .before .before .before .before .before .before .before .before .before .before .before .before .before .before .before .before .before .before .before .before .before .before .before .args in
+    let z = sheet-held (c .before .before .before .before .before .before .before .before .before .before .before .before .before .before .before .before .before .before .before .before .before .before .before .before .decode .ensures) in
+    let d = c .before .before .before .before .before .before .before .before .before .before .before .before .before .before .before .before .before .before .before .before .decode2 .ensures in
+    let t = same-three taskWith (d .of-goals .held) (d .of-history .held) (c .before .before .before .before .before .before .before .before .before .before .before .before .before .before .before .before .before .before .decode3 .ensures .held) in
+    let x = d .of-joints .held in (
+      w .ensures .0 ∙ same-three (λ s′ t′ x′. slopesNumber s′ t′ x′ (roomIn (length (now (a .scratch)))) (roomIn (length (now (a .value)))) (roomIn (length (now (a .slopes))))) z t x,
+      (
+        w .ensures .1 .0 ∙ ap (λ (y : List Float). ifTaken (w .result) (now (a .scratch)) (splice (now (a .scratch)) 0 (bytesOf y))) x,
+        (
+          w .ensures .1 .1 .0 ∙ same-three (λ s′ t′ x′. ifTaken (w .result) (now (a .value)) (splice (now (a .value)) 0 (bytesOf (objectiveValue s′ t′ x′)))) z t x,
+          w .ensures .1 .1 .1 ∙ same-three (λ s′ t′ x′. ifTaken (w .result) (now (a .slopes)) (splice (now (a .slopes)) 0 (bytesOf (slopesIn (a .rule) s′ t′ x′)))) z t x,
+        ),
+      ),
+    )
 
 pub slopes-by-spec : {M : Type 1} → statement M
 slopes-by-spec =
     tie.close
-    (tie.spec (λ c κs. search needs) (λ c κs. search needs) (λ c. search needs) (λ c. search needs) (λ c. search needs) (λ c. search needs)
-    (λ c. search needs) (λ c. search needs) (λ c. search needs) (λ c. search needs) (λ c. search needs) (λ c. search needs) (λ c. search needs)
-    (λ c. search needs) (λ c. search needs) (λ c. search needs) (λ c κs. search needs) (λ c. search needs) (λ c. search needs) (λ c. search needs)
-    (λ c. search needs) returns)
+    (tie.spec (λ c κs. search needs) (λ c κs. search needs) (λ c κs. search needs) (λ c. search needs) (λ c. search needs) (λ c. search needs)
+    (λ c. search needs) (λ c. search needs) (λ c. search needs) (λ c. search needs) (λ c. search needs) (λ c. search needs)
+    (λ c. search needs) (λ c. search needs) (λ c. search needs) (λ c. search needs) (λ c. search needs) (λ c. search needs)
+    (λ c. search needs) (λ c κs. search needs) (λ c. search needs) (λ c. search needs) (λ c. search needs) (λ c. search needs)
+    returns)

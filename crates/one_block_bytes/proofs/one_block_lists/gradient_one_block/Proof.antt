@@ -7,6 +7,7 @@ use lib.Ieee.{Float}
 use lib.ListN.{length}
 use Rattle.calls.specs.Arms.{refused}
 use Rattle.lent_bytes.specs.SheetLists.{SheetLists, sheetWith}
+use Rattle.objective_bytes.specs.ObjectiveCalls.{taskWith}
 use Rattle.one_block_bytes.specs.OneBlockLaws.{Fitted, one-block-fitted, task-counted}
 use borrow.Author.Needs.{needs}
 use Rattle.one_block_bytes.proofs.one_block_lists.gradient_one_block.Statement.{statement}
@@ -22,12 +23,12 @@ abbrev block : tie.Start → List Float
 block s = now (s .args .block)
 
 abbrev S : tie.Else1 → tie.Start
-S c = c .before .before .before .before .before .before .before .before .before .before .before .before .before .before .before
+S c = c .before .before .before .before .before .before .before .before .before .before .before .before .before .before .before .before
 
 -- what an accepted call knows
-fitted : (c : tie.Else1) → Fitted (sheet (S c)) (now (S c .args .goals)) (now (S c .args .history)) (block (S c)) (length (now (S c .args .value))) (length (now (S c .args .slopes)))
+fitted : (c : tie.Else1) → Fitted (sheet (S c)) (taskWith (now (S c .args .goals)) (now (S c .args .history)) (now (S c .args .weights))) (block (S c)) (length (now (S c .args .value))) (length (now (S c .args .slopes)))
     (length (now (S c .args .record-joints))) (length (now (S c .args .record-links))) (length (now (S c .args .record-poses)))
-fitted c = one-block-fitted (sheet (S c)) _ _ _ _ _ _ _ _ (sym (c .before .one-block-number .ensures) ∙ c .if1 .left)
+fitted c = one-block-fitted (sheet (S c)) _ _ _ _ _ _ _ (sym (c .before .one-block-number .ensures) ∙ c .if1 .left)
 
 one-block-number-requires : tie.Need-one-block-number-requires
 one-block-number-requires c κs = search needs
@@ -42,7 +43,7 @@ returns c =
     (c .before .one-block-number .ensures, (sym (refused n _ _ t), (sym (refused n _ _ t), (sym (refused n _ _ t), sym (refused n _ _ t), sym (refused n _ _ t)))))
 
 entries-requires : tie.Need-entries-requires
-entries-requires c κs = task-counted (sheet (S c)) _ _ _ (fitted c .accepted)
+entries-requires c κs = task-counted (sheet (S c)) _ _ _ (fitted c .accepted .0)
 
 slice-aggregate-put-one-block : tie.Need-slice-aggregate-put-one-block
 slice-aggregate-put-one-block c = search needs

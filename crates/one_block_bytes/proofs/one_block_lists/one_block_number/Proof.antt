@@ -1,4 +1,4 @@
--- `one_block_number` meets its contract: 1 to 8, then 9 for each output.
+-- `one_block_number` meets its contract: 1 to 8, then 9 for each output, then 10.
 use mathlib.Core.Path.{_≡_, sym, ap, _∙_}
 use native.Mathlib.Omega.{arith}
 use denote.Ref.{now}
@@ -18,7 +18,7 @@ abbrev sheet : tie.Start → SheetLists
 sheet s = sheetWith (now (s .args .sizes)) (now (s .args .codes)) (now (s .args .floats)) (now (s .args .limits))
 
 abbrev S : tie.Else1 → tie.Start
-S c = c .before .before .before .before .before .before .before .before .before
+S c = c .before .before .before .before .before .before .before .before .before .before
 
 passed : (c : tie.Else1) → taskNumber (sheet (S c)) (now (S c .args .goals)) (now (S c .args .history)) (now (S c .args .joints)) ≡ 0
 passed c = sym (c .before .task-number .ensures) ∙ c .if1 .left
@@ -65,22 +65,31 @@ room-requires-3 c κs = search needs
 record-refusal-requires : tie.Need-record-refusal-requires
 record-refusal-requires c κs = omega (arith, c .before .before .before .entries .ensures, counted (c .before .before .before .before .before .before .before .before .before) .entries)
 
+weights-refusal-requires : tie.Need-weights-refusal-requires
+weights-refusal-requires c κs = search needs
+
 first-of-requires : tie.Need-first-of-requires
 first-of-requires c κs = search needs
 
 first-of-requires-2 : tie.Need-first-of-requires-2
 first-of-requires-2 c κs = search needs
 
+first-of-requires-3 : tie.Need-first-of-requires-3
+first-of-requires-3 c κs = search needs
+
 returns-2 : tie.Need-returns-2
 unfolding oneBlockNumber
 returns-2 c =
-    let e = c .before .before .before .before .before .before .before .before .before .before .before .before in
-    let n = c .before .before .before .before .before .before .before .before .before .before .before .block-length .ensures in
-    let first = c .before .before .before .before .before .before .before .before .before .room-refusal .ensures ∙ ap (roomRefusal 1) (c .before .before .before .before .before .before .before .before .before .before .room .ensures) in
-    let second = c .before .before .before .before .before .before .before .room-refusal2 .ensures ∙ same-two roomRefusal n (c .before .before .before .before .before .before .before .before .room2 .ensures) in
-    let third = c .before .before .record-refusal .ensures
-    ∙ same-four recordRefusal (c .before .before .before .before .before .before .entries .ensures) (c .before .before .before .before .before .number-room .ensures) (c .before .before .before .before .number-room2 .ensures) (c .before .before .before .room3 .ensures) in
-    c .first-of2 .ensures ∙ same-two firstOf first (c .before .first-of .ensures ∙ same-two firstOf second third) ∙ sym (first-zero _ _ (passed e))
+    let e = c .before .before .before .before .before .before .before .before .before .before .before .before .before .before in
+    let n = c .before .before .before .before .before .before .before .before .before .before .before .before .before .block-length .ensures in
+    let first = c .before .before .before .before .before .before .before .before .before .before .before .room-refusal .ensures ∙ ap (roomRefusal 1) (c .before .before .before .before .before .before .before .before .before .before .before .before .room .ensures) in
+    let second = c .before .before .before .before .before .before .before .before .before .room-refusal2 .ensures ∙ same-two roomRefusal n (c .before .before .before .before .before .before .before .before .before .before .room2 .ensures) in
+    let third = c .before .before .before .before .record-refusal .ensures
+    ∙ same-four recordRefusal (c .before .before .before .before .before .before .before .before .entries .ensures) (c .before .before .before .before .before .before .before .number-room .ensures) (c .before .before .before .before .before .before .number-room2 .ensures) (c .before .before .before .before .before .room3 .ensures) in
+    c .first-of3 .ensures
+    ∙ same-two firstOf first
+    (c .before .first-of2 .ensures ∙ same-two firstOf second (c .before .before .first-of .ensures ∙ same-two firstOf third (c .before .before .before .weights-refusal .ensures)))
+    ∙ sym (first-zero _ _ (passed e))
 
 pub one-block-number-spec : {M : Type 1} → statement M
 one-block-number-spec =
@@ -98,6 +107,8 @@ one-block-number-spec =
     number-room-requires-2
     room-requires-3
     record-refusal-requires
+    weights-refusal-requires
     first-of-requires
     first-of-requires-2
+    first-of-requires-3
     returns-2)

@@ -9,16 +9,16 @@ use Rattle.lists.specs.Splice.{splice}
 use Rattle.gradient.specs.Gradient.{valueAt, gradientOf}
 use Rattle.one_block.specs.Record.{entriesOf, recordJoints, recordLinks, recordPoses}
 use Rattle.lent_bytes.specs.SheetLists.{SheetLists, sheetWith}
-use Rattle.objective_bytes.specs.ObjectiveCalls.{valueIn, slopesIn}
+use Rattle.objective_bytes.specs.ObjectiveCalls.{taskWith, valueIn, slopesIn}
 use Rattle.objective_bytes.specs.ObjectiveLaws.{Taken, task-taken, fit-taken, laid-taken, ready-taken}
 use Rattle.one_block_bytes.specs.OneBlockCalls.{entriesIn, recordJointsIn, recordLinksIn, recordPosesIn}
 use Rattle.one_block_bytes.specs.OneBlockLaws.{task-counted}
 use borrow.Author.Needs.{needs}
 use Rattle.one_block_bytes.proofs.one_block_lists.one_block_on.Statement.{statement}
 use Rattle.one_block_bytes.proofs.one_block_lists.one_block_on.Tie as tie
-use Rattle.objective_bytes.proofs.objective_lists.lay_task.Reads as lay-task-reads
 use Rattle.one_block.proofs.grad.gradient.Reads as gradient-reads
 use Rattle.refusals.proofs.shape.links.Reads as links-reads
+use Rattle.task.proofs.lay.lay_lent.Reads as lay-lent-reads
 
 abbrev sheet : tie.Start → SheetLists
 sheet s = sheetWith (now (s .args .sizes)) (now (s .args .codes)) (now (s .args .floats)) (now (s .args .limits))
@@ -26,11 +26,11 @@ sheet s = sheetWith (now (s .args .sizes)) (now (s .args .codes)) (now (s .args 
 abbrev block : tie.Start → List Float
 block s = now (s .args .block)
 
-known : (s : tie.Start) → Taken (sheet s) (now (s .args .goals)) (now (s .args .history)) (block s)
-known s = task-taken (sheet s) _ _ (block s) (s .pre .0)
+known : (s : tie.Start) → Taken (sheet s) (taskWith (now (s .args .goals)) (now (s .args .history)) (now (s .args .weights))) (block s)
+known s = task-taken (sheet s) _ (block s) (s .pre .0)
 
 abbrev S : tie.After-links → tie.Start
-S c = c .before .before .before .before .before .before .before .before .before .before .before .before
+S c = c .before .before .before .before .before .before .before .before .before .before .before .before .before
 
 -- the record's entries are the sheet's
 counted : (c : tie.After-links) → entriesOf (now (c .links .result)) (now (S c .args .codes)) ≡ entriesIn (sheet (S c))
@@ -39,24 +39,24 @@ counted c = ap (λ (ns : List ℕ). entriesOf ns (now (S c .args .codes))) (c .l
 links-requires : tie.Need-links-requires
 links-requires c κs = search needs
 
-slice-aggregate-lay-task : tie.Need-slice-aggregate-lay-task
-slice-aggregate-lay-task c = search needs
+slice-aggregate-lay-lent : tie.Need-slice-aggregate-lay-lent
+slice-aggregate-lay-lent c = search needs
 
-lay-task-requires : tie.Need-lay-task-requires
-lay-task-requires c κs =
-    let t = known (c .before .before .before .before .before .before .before .before .before .before .before .before .before) in
-    ((refl, omega (arith, t .block, t .few), omega (arith, t .block, t .blocks)), fit-taken _ _ _ _ t)
+lay-lent-requires : tie.Need-lay-lent-requires
+lay-lent-requires c κs =
+    let t = known (c .before .before .before .before .before .before .before .before .before .before .before .before .before .before) in
+    (refl, ((omega (arith, t .block, t .few), omega (arith, t .block, t .blocks)), fit-taken _ _ _ t))
 
 slice-aggregate-gradient : tie.Need-slice-aggregate-gradient
 slice-aggregate-gradient c = search needs
 
 gradient-requires : tie.Need-gradient-requires
 gradient-requires c κs =
-    let s = c .before .before .before .before .before .before .before .before .before .before .before .before .before .before .before .before .before .before .before .before .before in
+    let s = c .before .before .before .before .before .before .before .before .before .before .before .before .before .before .before .before .before .before .before .before .before .before in
     let t = known s in
     let n = counted (c .before .before .before .before .before .before .before .before .before) in
-    let m = task-counted (sheet s) _ _ _ (s .pre .0) .entries in (
-      (ready-taken (sheet s) _ _ _ t _ _ (c .before .before .before .before .before .before .before .before .before .links .ensures) (c .before .before .before .before .before .before .before .lay-task .kept .1 .1 .1 .1 .0), omega (arith, s .pre .1 .0, t .block, t .few)),
+    let m = task-counted (sheet s) _ _ _ (s .pre .0 .0) .entries in (
+      (ready-taken (sheet s) _ _ t _ _ (c .before .before .before .before .before .before .before .before .before .links .ensures) (c .before .before .before .before .before .before .before .lay-lent .kept .1 .1 .1 .1 .1 .0), omega (arith, s .pre .1 .0, t .block, t .few)),
       record { joints-room = omega (arith, n, m, s .pre .1 .0); links-room = omega (arith, n, m, s .pre .1 .0); frames-room = omega (arith, n, s .pre .1 .1) },
     )
 
@@ -78,11 +78,11 @@ same-length-5 c = search needs
 returns : tie.Need-returns
 unfolding valueIn slopesIn recordJointsIn recordLinksIn recordPosesIn
 returns c =
-    let s = c .before .before .before .before .before .before .before .before .before .before .before .before .before .before .before .before .before .before .before .before .before .before .before .before .before .before .before .before .before .before .before .before in
+    let s = c .before .before .before .before .before .before .before .before .before .before .before .before .before .before .before .before .before .before .before .before .before .before .before .before .before .before .before .before .before .before .before .before .before in
     let a = s .args in
     let cs = now (a .codes) in
     let l = c .before .before .before .before .before .before .before .before .before .before .before .before .before .before .before .before .before .before .before .before .links .ensures in
-    let g = laid-taken (sheet s) _ _ _ (known s) _ _ _ l refl (c .before .before .before .before .before .before .before .before .before .before .before .before .before .before .before .before .before .before .lay-task .ensures) in
+    let g = laid-taken (sheet s) _ _ (known s) _ _ _ l refl (c .before .before .before .before .before .before .before .before .before .before .before .before .before .before .before .before .before .before .lay-lent .ensures) in
     let e = c .before .before .before .before .before .before .before .before .before .before .gradient .ensures in (
       e .0 ∙ ap (λ g′. valueAt g′ (now (a .floats)) (block s)) g,
       (
@@ -103,8 +103,8 @@ one-block-on-spec =
     tie.close
     (tie.spec
     links-requires
-    slice-aggregate-lay-task
-    lay-task-requires
+    slice-aggregate-lay-lent
+    lay-lent-requires
     slice-aggregate-gradient
     gradient-requires
     same-length

@@ -38,19 +38,19 @@ slice-aggregate-one-block-on-3 : tie.Need-slice-aggregate-one-block-on-3
 slice-aggregate-one-block-on-3 c = search needs
 
 one-block-on-requires : tie.Need-one-block-on-requires
-one-block-on-requires c κs = let p = c .before .before .before .before .before .before .before .before .before .before .before .before .before .before .before .before .before .before .pre in (p .0 .accepted, ((refl, refl, refl), p .1))
+one-block-on-requires c κs = let p = c .before .before .before .before .before .before .before .before .before .before .before .before .before .before .before .before .before .before .before .pre in (p .0 .accepted, ((refl, refl, refl), p .1))
 
 slice-aggregate-put-slopes : tie.Need-slice-aggregate-put-slopes
 slice-aggregate-put-slopes c = search needs
 
 put-slopes-requires : tie.Need-put-slopes-requires
 put-slopes-requires c κs =
-    let t = c .before .before .before .before .before .before .before .before .before .before .before .before .before .before .before .before .before .before .before .before .before .before .before .before .before .before .before .before .before .pre .0 in
-    let g = c .before .before .before .before .before .before .before .before .before .before .one-block-on .kept .1 .1 .1 .1 .1 .1 in
+    let t = c .before .before .before .before .before .before .before .before .before .before .before .before .before .before .before .before .before .before .before .before .before .before .before .before .before .before .before .before .before .before .pre .0 in
+    let g = c .before .before .before .before .before .before .before .before .before .before .one-block-on .kept .1 .1 .1 .1 .1 .1 .1 in
     (omega (arith, t .few, g .0, g .1 .0), t .value-room, omega (arith, t .slopes-room, g .0))
 
 entries-requires : tie.Need-entries-requires
-entries-requires c κs = let s = c .before .before .before .before .before .before .before .before .before .before .before .before .before .before .before .before .before .before .before .before .before .before .before .before .before .before .before .before .before .before .before .before .before .before in task-counted (sheet s) _ _ _ (s .pre .0 .accepted)
+entries-requires c κs = let s = c .before .before .before .before .before .before .before .before .before .before .before .before .before .before .before .before .before .before .before .before .before .before .before .before .before .before .before .before .before .before .before .before .before .before .before in task-counted (sheet s) _ _ _ (s .pre .0 .accepted .0)
 
 slice-aggregate-put-record : tie.Need-slice-aggregate-put-record
 slice-aggregate-put-record c = search needs
@@ -60,9 +60,9 @@ slice-aggregate-put-record-2 c = search needs
 
 put-record-requires : tie.Need-put-record-requires
 put-record-requires c κs =
-    let p = c .before .before .before .before .before .before .before .before .before .before .before .before .before .before .before .before .before .before .before .before .before .before .before .before .before .before .before .before .before .before .before .before .before .before .before .before .before .before .before .before .before .pre in
+    let p = c .before .before .before .before .before .before .before .before .before .before .before .before .before .before .before .before .before .before .before .before .before .before .before .before .before .before .before .before .before .before .before .before .before .before .before .before .before .before .before .before .before .before .pre in
     let t = p .0 in
-    let g = c .before .before .before .before .before .before .before .before .before .before .before .before .before .before .before .before .before .before .before .before .before .before .one-block-on .kept .1 .1 .1 .1 .1 .1 .1 .1 in
+    let g = c .before .before .before .before .before .before .before .before .before .before .before .before .before .before .before .before .before .before .before .before .before .before .one-block-on .kept .1 .1 .1 .1 .1 .1 .1 .1 .1 in
     let m = c .before .before .before .before .before .before .entries .ensures in (
       (omega (arith, m, t .entries, g .0), omega (arith, m, t .entries, g .1 .0), omega (arith, m, p .1, g .1 .1 .0)),
       (omega (arith, m, t .joints-room), omega (arith, m, t .links-room), omega (arith, m, t .poses-room)),
@@ -91,13 +91,13 @@ same-length-7 c = search needs
 
 returns : tie.Need-returns
 returns c =
-    let s = c .before .before .before .before .before .before .before .before .before .before .before .before .before .before .before .before .before .before .before .before .before .before .before .before .before .before .before .before .before .before .before .before .before .before .before .before .before .before .before .before .before .before .before .before .before .before .before .before in
+    let s = c .before .before .before .before .before .before .before .before .before .before .before .before .before .before .before .before .before .before .before .before .before .before .before .before .before .before .before .before .before .before .before .before .before .before .before .before .before .before .before .before .before .before .before .before .before .before .before .before .before in
     let a = s .args in
     let m = c .before .before .before .before .before .before .before .before .before .before .before .before .before .entries .ensures in
     let g = c .before .before .before .before .before .before .before .before .before .before .before .before .before .before .before .before .before .before .before .before .before .before .before .before .before .before .before .before .before .one-block-on .ensures in
     let p = c .before .before .before .before .before .before .before .before .before .before .before .before .before .before .before .before .before .before .put-slopes .ensures in
     let q = c .before .before .before .before .before .before .put-record .ensures in
-    let l = slopes-in-length EachLoss (sheet s) (now (a .goals)) (now (a .history)) (block s) ∙ sym (ap length (g .1 .0)) in (
+    let l = slopes-in-length EachLoss (sheet s) _ (block s) ∙ sym (ap length (g .1 .0)) in (
       p .0 ∙ ap (λ (v : Float). splice (now (a .value)) 0 (bytesOf (v ∷ []))) (g .0) ∙ sym (taken 0 _ _ refl),
       (
         p .1 ∙ ap (λ (y : List Float). splice (now (a .slopes)) 0 (bytesOf y)) (front _ _ _ _ (g .1 .1 .0) l) ∙ sym (taken 0 _ _ refl),

@@ -1,13 +1,12 @@
 -- `gradient_one_block` meets its contract: by what its calls ensure of the decoded lists.
-use mathlib.Core.Path.{sym, ap, _∙_}
+use mathlib.Core.Path.{ap, _∙_}
 use denote.Ref.{now}
 use lib.ListN.{length}
 use Rattle.lists.specs.Splice.{splice}
 use Rattle.calls.specs.Arms.{ifTaken}
 use Rattle.lent_bytes.specs.Lent.{roomIn, numberRoomIn, bytesOf, bytesOfNumbers}
-use Rattle.lent_bytes.specs.SheetLists.{SheetLists, sheet-held, same-two}
-use Rattle.objective_bytes.specs.ObjectiveCalls.{objectiveValue, gradientSlopes}
-use Rattle.objective_bytes.specs.ObjectiveLaws.{same-four}
+use Rattle.lent_bytes.specs.SheetLists.{SheetLists, sheet-held, same-two, same-three}
+use Rattle.objective_bytes.specs.ObjectiveCalls.{taskWith, objectiveValue, gradientSlopes}
 use Rattle.one_block_bytes.specs.OneBlockCalls.{oneBlockNumber, recordJointsIn, recordLinksIn, recordPosesIn}
 use borrow.Author.Needs.{needs}
 use Rattle.one_block_bytes.proofs.slopes.gradient_one_block.Statement.{statement}
@@ -16,20 +15,19 @@ use Rattle.one_block_bytes.proofs.slopes.gradient_one_block.Tie as tie
 returns : tie.Need-returns
 returns c =
     let w = c .before .before .before .before .before .before .before .before .before .before .before .gradient-one-block in
-    let a = c .before .before .before .before .before .before .before .before .before .before .before .before .before .before .before .before .before .before .before .before .before .before .before .before .before .before .before .before .before .before .before .before .before .before .before .before .before .before .before .before .before .before .before .before .before .args in
-    let z = sheet-held (c .before .before .before .before .before .before .before .before .before .before .before .before .before .before .before .before .before .before .before .before .before .before .before .before .before .before .before .before .decode .ensures) in
-    let t = c .before .before .before .before .before .before .before .before .before .before .before .before .before .before .before .before .before .before .before .before .before .before .before .before .decode2 .ensures in
-    let g = t .of-goals .held in
-    let h = t .of-history .held in
-    let x = t .of-joints .held in
+    let a = c .before .before .before .before .before .before .before .before .before .before .before .before .before .before .before .before .before .before .before .before .before .before .before .before .before .before .before .before .before .before .before .before .before .before .before .before .before .before .before .before .before .before .before .before .before .before .before .before .before .args in
+    let z = sheet-held (c .before .before .before .before .before .before .before .before .before .before .before .before .before .before .before .before .before .before .before .before .before .before .before .before .before .before .before .before .before .before .before .decode .ensures) in
+    let d = c .before .before .before .before .before .before .before .before .before .before .before .before .before .before .before .before .before .before .before .before .before .before .before .before .before .before .before .decode2 .ensures in
+    let t = same-three taskWith (d .of-goals .held) (d .of-history .held) (c .before .before .before .before .before .before .before .before .before .before .before .before .before .before .before .before .before .before .before .before .before .before .before .before .before .decode3 .ensures .held) in
+    let x = d .of-joints .held in
     let r = w .ensures .1 .1 .1 in (
       w .ensures .0
-          ∙ same-four (λ s′ g′ h′ x′. oneBlockNumber s′ g′ h′ x′ (roomIn (length (now (a .value)))) (roomIn (length (now (a .slopes))))
-          (numberRoomIn (length (now (a .record-joints)))) (numberRoomIn (length (now (a .record-links)))) (roomIn (length (now (a .record-poses))))) z g h x,
+          ∙ same-three (λ s′ t′ x′. oneBlockNumber s′ t′ x′ (roomIn (length (now (a .value)))) (roomIn (length (now (a .slopes))))
+          (numberRoomIn (length (now (a .record-joints)))) (numberRoomIn (length (now (a .record-links)))) (roomIn (length (now (a .record-poses))))) z t x,
       (
-        w .ensures .1 .0 ∙ same-four (λ s′ g′ h′ x′. ifTaken (w .result) (now (a .value)) (splice (now (a .value)) 0 (bytesOf (objectiveValue s′ g′ h′ x′)))) z g h x,
+        w .ensures .1 .0 ∙ same-three (λ s′ t′ x′. ifTaken (w .result) (now (a .value)) (splice (now (a .value)) 0 (bytesOf (objectiveValue s′ t′ x′)))) z t x,
         (
-          w .ensures .1 .1 .0 ∙ same-four (λ s′ g′ h′ x′. ifTaken (w .result) (now (a .slopes)) (splice (now (a .slopes)) 0 (bytesOf (gradientSlopes s′ g′ h′ x′)))) z g h x,
+          w .ensures .1 .1 .0 ∙ same-three (λ s′ t′ x′. ifTaken (w .result) (now (a .slopes)) (splice (now (a .slopes)) 0 (bytesOf (gradientSlopes s′ t′ x′)))) z t x,
           (
             r .0 ∙ ap (λ (s′ : SheetLists). ifTaken (w .result) (now (a .record-joints)) (splice (now (a .record-joints)) 0 (bytesOfNumbers (recordJointsIn s′)))) z,
             r .1 ∙ ap (λ (s′ : SheetLists). ifTaken (w .result) (now (a .record-links)) (splice (now (a .record-links)) 0 (bytesOfNumbers (recordLinksIn s′)))) z,
@@ -42,7 +40,8 @@ returns c =
 pub gradient-one-block-spec : {M : Type 1} → statement M
 gradient-one-block-spec =
     tie.close
-    (tie.spec (λ c κs. search needs) (λ c κs. search needs) (λ c. search needs) (λ c. search needs) (λ c. search needs) (λ c. search needs)
-    (λ c. search needs) (λ c. search needs) (λ c. search needs) (λ c. search needs) (λ c. search needs) (λ c. search needs) (λ c. search needs)
-    (λ c. search needs) (λ c. search needs) (λ c. search needs) (λ c κs. search needs) (λ c. search needs) (λ c. search needs) (λ c. search needs) (λ c. search needs)
+    (tie.spec (λ c κs. search needs) (λ c κs. search needs) (λ c κs. search needs) (λ c. search needs) (λ c. search needs) (λ c. search needs)
+    (λ c. search needs) (λ c. search needs) (λ c. search needs) (λ c. search needs) (λ c. search needs) (λ c. search needs)
+    (λ c. search needs) (λ c. search needs) (λ c. search needs) (λ c. search needs) (λ c. search needs) (λ c. search needs)
+    (λ c. search needs) (λ c κs. search needs) (λ c. search needs) (λ c. search needs) (λ c. search needs) (λ c. search needs)
     (λ c. search needs) (λ c. search needs) returns)

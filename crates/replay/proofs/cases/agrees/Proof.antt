@@ -72,14 +72,23 @@ returns-7 c =
     let n = c .before .before .before .before .before .before .before .before in
     rw (← n .number-at .ensures .0, ne-eqb _ 0 (c .before .before .before .before .before .before .before .if1 .left), ne-eqb _ 1 (c .before .before .before .before .before .before .if2 .left), le-ltb _ 6 (c .before .before .before .before .before .if3 .left), le-ltb _ 8 (c .before .before .before .before .if4 .left), le-ltb _ 10 (c .before .before .before .if5 .left), ne-eqb _ 10 (c .before .before .if6 .left), eq-eqb _ 41 (c .before .if7 .taken)) (c .plan-output .ensures)
 
-leaf-requires : tie.Need-leaf-requires
-leaf-requires c κs = search needs
+set-weights-requires : tie.Need-set-weights-requires
+set-weights-requires c κs = search needs
 
 returns-8 : tie.Need-returns-8
 unfolding recordAgrees callAgrees
 returns-8 c =
-    let n = c .before .before .before .before .before .before .before .before in
-    rw (← n .number-at .ensures .0, ne-eqb _ 0 (c .before .before .before .before .before .before .before .if1 .left), ne-eqb _ 1 (c .before .before .before .before .before .before .if2 .left), le-ltb _ 6 (c .before .before .before .before .before .if3 .left), le-ltb _ 8 (c .before .before .before .before .if4 .left), le-ltb _ 10 (c .before .before .before .if5 .left), ne-eqb _ 10 (c .before .before .if6 .left), ne-eqb _ 41 (c .before .if7 .left)) (c .leaf .ensures)
+    let n = c .before .before .before .before .before .before .before .before .before in
+    rw (← n .number-at .ensures .0, ne-eqb _ 0 (c .before .before .before .before .before .before .before .before .if1 .left), ne-eqb _ 1 (c .before .before .before .before .before .before .before .if2 .left), le-ltb _ 6 (c .before .before .before .before .before .before .if3 .left), le-ltb _ 8 (c .before .before .before .before .before .if4 .left), le-ltb _ 10 (c .before .before .before .before .if5 .left), ne-eqb _ 10 (c .before .before .before .if6 .left), ne-eqb _ 41 (c .before .before .if7 .left), eq-eqb _ 42 (c .before .if8 .taken)) (c .set-weights .ensures)
+
+leaf-requires : tie.Need-leaf-requires
+leaf-requires c κs = search needs
+
+returns-9 : tie.Need-returns-9
+unfolding recordAgrees callAgrees
+returns-9 c =
+    let n = c .before .before .before .before .before .before .before .before .before in
+    rw (← n .number-at .ensures .0, ne-eqb _ 0 (c .before .before .before .before .before .before .before .before .if1 .left), ne-eqb _ 1 (c .before .before .before .before .before .before .before .if2 .left), le-ltb _ 6 (c .before .before .before .before .before .before .if3 .left), le-ltb _ 8 (c .before .before .before .before .before .if4 .left), le-ltb _ 10 (c .before .before .before .before .if5 .left), ne-eqb _ 10 (c .before .before .before .if6 .left), ne-eqb _ 41 (c .before .before .if7 .left), ne-eqb _ 42 (c .before .if8 .left)) (c .leaf .ensures)
 
 pub agrees-spec : {M : Type 1} → statement M
 agrees-spec =
@@ -100,5 +109,7 @@ agrees-spec =
     returns-6
     plan-output-requires
     returns-7
+    set-weights-requires
+    returns-8
     leaf-requires
-    returns-8)
+    returns-9)

@@ -1,12 +1,12 @@
 -- `gradient_finite_diff` meets its contract: the call is lent the record's lists, and outputs that are filled.
 use mathlib.Core.Path.{ap, _∙_}
 use mathlib.Core.List.{[], _∷_}
-use Prim.Native.Nat.{_+_}
+use Prim.Native.Nat.{ℕ, _+_}
 use native.Mathlib.Omega.{arith}
 use Rattle.lent_bytes.specs.Lent.{numbersIn, floatsIn, roomIn, bytesOf}
 use Rattle.lent_bytes.specs.SheetLists.{same-three, same-sheet}
-use Rattle.objective_bytes.specs.ObjectiveCalls.{finiteDiffSlopes, objectiveValue, slopesNumber}
-use Rattle.stored_answers.specs.Same.{same-four, same-seven}
+use Rattle.objective_bytes.specs.ObjectiveCalls.{taskFrom, finiteDiffSlopes, objectiveValue, slopesNumber}
+use Rattle.stored_answers.specs.Same.{same-four}
 use Rattle.stored_answers.specs.Stored.{listOf}
 use Rattle.stored_answers.specs.Agree.{filled-length, left-written, same-answer}
 use Rattle.replay.specs.Table.{objectiveOutputs}
@@ -36,11 +36,14 @@ list-requires-6 c κs = search needs
 list-requires-7 : tie.Need-list-requires-7
 list-requires-7 c κs = search needs
 
+list-requires-8 : tie.Need-list-requires-8
+list-requires-8 c κs = search needs
+
 gradient-finite-diff-requires : tie.Need-gradient-finite-diff-requires
 gradient-finite-diff-requires c κs = search needs
 
 three-requires : tie.Need-three-requires
-three-requires c κs = (c .before .before .before .before .before .before .before .before .before .before .before .before .before .before .before .before .before .before .before .before .before .before .before .before .pre .0, omega arith)
+three-requires c κs = (c .before .before .before .before .before .before .before .before .before .before .before .before .before .before .before .before .before .before .before .before .before .before .before .before .before .pre .0, omega arith)
 
 same-length : tie.Need-same-length
 same-length c = search needs
@@ -56,17 +59,16 @@ unfolding finiteDiffAgrees
 returns c =
     let w = c .before .before .before .before .before .before .before .before .before .before in
     let l = w .before .before .before .before in
-    let b = l .before .before .before .before .before .before .before .before .before .before .before in
+    let b = l .before .before .before .before .before .before .before .before .before .before .before .before in
     let o = listOf (b .args .s .now) (b .args .at) in
-    let z = same-sheet (ap (numbersIn 5) (l .before .before .before .before .before .before .list .ensures .0)) (ap (numbersIn 64) (l .before .before .before .before .before .list2 .ensures .0)) (ap (floatsIn 448) (l .before .before .before .before .list3 .ensures .0)) (ap (floatsIn 32) (l .before .before .before .list4 .ensures .0)) in
-    let g = ap (floatsIn 52) (l .before .before .list5 .ensures .0) in
-    let h = ap (floatsIn 64) (l .before .list6 .ensures .0) in
-    let x = ap (floatsIn 16) (l .list7 .ensures .0) in
-    let n = w .gradient-finite-diff .ensures .0 ∙ same-seven slopesNumber z g h x (ap roomIn (filled-length (o objectiveOutputs) (b .pre .1 .0))) (ap roomIn (filled-length (o (objectiveOutputs + 1)) (b .pre .1 .1))) (ap roomIn (filled-length (o (objectiveOutputs + 2)) (b .pre .1 .2))) in
+    let z = same-sheet (ap (numbersIn 5) (l .before .before .before .before .before .before .before .list .ensures .0)) (ap (numbersIn 64) (l .before .before .before .before .before .before .list2 .ensures .0)) (ap (floatsIn 448) (l .before .before .before .before .before .list3 .ensures .0)) (ap (floatsIn 32) (l .before .before .before .before .list4 .ensures .0)) in
+    let t = same-three taskFrom (l .before .before .before .list5 .ensures .0) (l .before .before .list6 .ensures .0) (l .before .list7 .ensures .0) in
+    let x = ap (floatsIn 16) (l .list8 .ensures .0) in
+    let n = w .gradient-finite-diff .ensures .0 ∙ same-four (λ (f : ℕ → ℕ → ℕ → ℕ) a b c. f a b c) (same-three slopesNumber z t x) (ap roomIn (filled-length (o objectiveOutputs) (b .pre .1 .0))) (ap roomIn (filled-length (o (objectiveOutputs + 1)) (b .pre .1 .1))) (ap roomIn (filled-length (o (objectiveOutputs + 2)) (b .pre .1 .2))) in
     c .three .ensures ∙ same-answer _ _ objectiveOutputs n (same-three (λ a b c. a ∷ b ∷ c ∷ [])
     (w .gradient-finite-diff .ensures .1 .0 ∙ left-written (o objectiveOutputs) n (b .pre .1 .0) (ap bytesOf x))
-    (w .gradient-finite-diff .ensures .1 .1 .0 ∙ left-written (o (objectiveOutputs + 1)) n (b .pre .1 .1) (ap bytesOf (same-four objectiveValue z g h x)))
-    (w .gradient-finite-diff .ensures .1 .1 .1 ∙ left-written (o (objectiveOutputs + 2)) n (b .pre .1 .2) (ap bytesOf (same-four finiteDiffSlopes z g h x))))
+    (w .gradient-finite-diff .ensures .1 .1 .0 ∙ left-written (o (objectiveOutputs + 1)) n (b .pre .1 .1) (ap bytesOf (same-three objectiveValue z t x)))
+    (w .gradient-finite-diff .ensures .1 .1 .1 ∙ left-written (o (objectiveOutputs + 2)) n (b .pre .1 .2) (ap bytesOf (same-three finiteDiffSlopes z t x))))
 
 pub gradient-finite-diff-spec : {M : Type 1} → statement M
 gradient-finite-diff-spec =
@@ -79,6 +81,7 @@ gradient-finite-diff-spec =
     list-requires-5
     list-requires-6
     list-requires-7
+    list-requires-8
     gradient-finite-diff-requires
     three-requires
     same-length

@@ -1,13 +1,13 @@
 -- `gradient_one_block` meets its contract: the call is lent the record's lists, and outputs that are filled.
 use mathlib.Core.Path.{ap, _∙_}
 use mathlib.Core.List.{[], _∷_}
-use Prim.Native.Nat.{_+_}
+use Prim.Native.Nat.{ℕ, _+_}
 use native.Mathlib.Omega.{arith}
 use Rattle.lent_bytes.specs.Lent.{numbersIn, floatsIn, roomIn, numberRoomIn, bytesOf, bytesOfNumbers}
-use Rattle.lent_bytes.specs.SheetLists.{same-two, same-sheet}
-use Rattle.objective_bytes.specs.ObjectiveCalls.{gradientSlopes, objectiveValue}
+use Rattle.lent_bytes.specs.SheetLists.{same-two, same-three, same-sheet}
+use Rattle.objective_bytes.specs.ObjectiveCalls.{taskFrom, gradientSlopes, objectiveValue}
 use Rattle.one_block_bytes.specs.OneBlockCalls.{recordJointsIn, recordLinksIn, oneBlockNumber, recordPosesIn}
-use Rattle.stored_answers.specs.Same.{same-four, same-five, same-nine}
+use Rattle.stored_answers.specs.Same.{same-four, same-five}
 use Rattle.stored_answers.specs.Stored.{listOf}
 use Rattle.stored_answers.specs.Agree.{filled-length, left-written, same-answer}
 use Rattle.replay.specs.Table.{objectiveOutputs}
@@ -37,11 +37,14 @@ list-requires-6 c κs = search needs
 list-requires-7 : tie.Need-list-requires-7
 list-requires-7 c κs = search needs
 
+list-requires-8 : tie.Need-list-requires-8
+list-requires-8 c κs = search needs
+
 gradient-one-block-requires : tie.Need-gradient-one-block-requires
 gradient-one-block-requires c κs = search needs
 
 five-requires : tie.Need-five-requires
-five-requires c κs = (c .before .before .before .before .before .before .before .before .before .before .before .before .before .before .before .before .before .before .before .before .before .before .before .before .before .before .before .before .before .before .before .before .before .before .pre .0, omega arith)
+five-requires c κs = (c .before .before .before .before .before .before .before .before .before .before .before .before .before .before .before .before .before .before .before .before .before .before .before .before .before .before .before .before .before .before .before .before .before .before .before .pre .0, omega arith)
 
 same-length : tie.Need-same-length
 same-length c = search needs
@@ -63,16 +66,15 @@ unfolding oneBlockAgrees
 returns c =
     let w = c .before .before .before .before .before .before .before .before .before .before .before .before .before .before .before .before in
     let l = w .before .before .before .before .before .before in
-    let b = l .before .before .before .before .before .before .before .before .before .before .before .before .before in
+    let b = l .before .before .before .before .before .before .before .before .before .before .before .before .before .before in
     let o = listOf (b .args .s .now) (b .args .at) in
-    let z = same-sheet (ap (numbersIn 5) (l .before .before .before .before .before .before .list .ensures .0)) (ap (numbersIn 64) (l .before .before .before .before .before .list2 .ensures .0)) (ap (floatsIn 448) (l .before .before .before .before .list3 .ensures .0)) (ap (floatsIn 32) (l .before .before .before .list4 .ensures .0)) in
-    let g = ap (floatsIn 52) (l .before .before .list5 .ensures .0) in
-    let h = ap (floatsIn 64) (l .before .list6 .ensures .0) in
-    let x = ap (floatsIn 16) (l .list7 .ensures .0) in
-    let n = w .gradient-one-block .ensures .0 ∙ same-nine oneBlockNumber z g h x (ap roomIn (filled-length (o objectiveOutputs) (b .pre .1 .0))) (ap roomIn (filled-length (o (objectiveOutputs + 1)) (b .pre .1 .1))) (ap numberRoomIn (filled-length (o (objectiveOutputs + 2)) (b .pre .1 .2))) (ap numberRoomIn (filled-length (o (objectiveOutputs + 3)) (b .pre .1 .3))) (ap roomIn (filled-length (o (objectiveOutputs + 4)) (b .pre .1 .4))) in
+    let z = same-sheet (ap (numbersIn 5) (l .before .before .before .before .before .before .before .list .ensures .0)) (ap (numbersIn 64) (l .before .before .before .before .before .before .list2 .ensures .0)) (ap (floatsIn 448) (l .before .before .before .before .before .list3 .ensures .0)) (ap (floatsIn 32) (l .before .before .before .before .list4 .ensures .0)) in
+    let t = same-three taskFrom (l .before .before .before .list5 .ensures .0) (l .before .before .list6 .ensures .0) (l .before .list7 .ensures .0) in
+    let x = ap (floatsIn 16) (l .list8 .ensures .0) in
+    let n = w .gradient-one-block .ensures .0 ∙ same-four (λ (f : ℕ → ℕ → ℕ → ℕ) a b c. f a b c) (same-three (λ (f : ℕ → ℕ → ℕ → ℕ → ℕ → ℕ) a b. f a b) (same-three oneBlockNumber z t x) (ap roomIn (filled-length (o objectiveOutputs) (b .pre .1 .0))) (ap roomIn (filled-length (o (objectiveOutputs + 1)) (b .pre .1 .1)))) (ap numberRoomIn (filled-length (o (objectiveOutputs + 2)) (b .pre .1 .2))) (ap numberRoomIn (filled-length (o (objectiveOutputs + 3)) (b .pre .1 .3))) (ap roomIn (filled-length (o (objectiveOutputs + 4)) (b .pre .1 .4))) in
     c .five .ensures ∙ same-answer _ _ objectiveOutputs n (same-five (λ a b c d e. a ∷ b ∷ c ∷ d ∷ e ∷ [])
-    (w .gradient-one-block .ensures .1 .0 ∙ left-written (o objectiveOutputs) n (b .pre .1 .0) (ap bytesOf (same-four objectiveValue z g h x)))
-    (w .gradient-one-block .ensures .1 .1 .0 ∙ left-written (o (objectiveOutputs + 1)) n (b .pre .1 .1) (ap bytesOf (same-four gradientSlopes z g h x)))
+    (w .gradient-one-block .ensures .1 .0 ∙ left-written (o objectiveOutputs) n (b .pre .1 .0) (ap bytesOf (same-three objectiveValue z t x)))
+    (w .gradient-one-block .ensures .1 .1 .0 ∙ left-written (o (objectiveOutputs + 1)) n (b .pre .1 .1) (ap bytesOf (same-three gradientSlopes z t x)))
     (w .gradient-one-block .ensures .1 .1 .1 .0 ∙ left-written (o (objectiveOutputs + 2)) n (b .pre .1 .2) (ap bytesOfNumbers (ap recordJointsIn z)))
     (w .gradient-one-block .ensures .1 .1 .1 .1 ∙ left-written (o (objectiveOutputs + 3)) n (b .pre .1 .3) (ap bytesOfNumbers (ap recordLinksIn z)))
     (w .gradient-one-block .ensures .1 .1 .1 .2 ∙ left-written (o (objectiveOutputs + 4)) n (b .pre .1 .4) (ap bytesOf (same-two recordPosesIn z x))))
@@ -88,6 +90,7 @@ gradient-one-block-spec =
     list-requires-5
     list-requires-6
     list-requires-7
+    list-requires-8
     gradient-one-block-requires
     five-requires
     same-length

@@ -3,9 +3,9 @@ use mathlib.Core.Path.{ap, _∙_}
 use mathlib.Core.List.{[], _∷_}
 use native.Mathlib.Omega.{arith}
 use Rattle.lent_bytes.specs.Lent.{numbersIn, floatsIn, roomIn, bytesOf}
-use Rattle.lent_bytes.specs.SheetLists.{same-sheet}
-use Rattle.objective_bytes.specs.ObjectiveCalls.{objectiveNumber, objectiveValue}
-use Rattle.stored_answers.specs.Same.{same-four, same-five}
+use Rattle.lent_bytes.specs.SheetLists.{same-three, same-sheet}
+use Rattle.objective_bytes.specs.ObjectiveCalls.{taskFrom, objectiveNumber, objectiveValue}
+use Rattle.stored_answers.specs.Same.{same-four}
 use Rattle.stored_answers.specs.Stored.{listOf}
 use Rattle.stored_answers.specs.Agree.{filled-length, left-written, same-answer}
 use Rattle.replay.specs.Table.{objectiveOutputs}
@@ -35,11 +35,14 @@ list-requires-6 c κs = search needs
 list-requires-7 : tie.Need-list-requires-7
 list-requires-7 c κs = search needs
 
+list-requires-8 : tie.Need-list-requires-8
+list-requires-8 c κs = search needs
+
 objective-requires : tie.Need-objective-requires
 objective-requires c κs = search needs
 
 one-requires : tie.Need-one-requires
-one-requires c κs = (c .before .before .before .before .before .before .before .before .before .before .before .before .before .before .pre .0, omega arith)
+one-requires c κs = (c .before .before .before .before .before .before .before .before .before .before .before .before .before .before .before .pre .0, omega arith)
 
 same-length : tie.Need-same-length
 same-length c = search needs
@@ -49,15 +52,14 @@ unfolding objectiveAgrees
 returns c =
     let w = c .before .before .before .before in
     let l = w .before .before in
-    let b = l .before .before .before .before .before .before .before .before .before in
+    let b = l .before .before .before .before .before .before .before .before .before .before in
     let o = listOf (b .args .s .now) (b .args .at) in
-    let z = same-sheet (ap (numbersIn 5) (l .before .before .before .before .before .before .list .ensures .0)) (ap (numbersIn 64) (l .before .before .before .before .before .list2 .ensures .0)) (ap (floatsIn 448) (l .before .before .before .before .list3 .ensures .0)) (ap (floatsIn 32) (l .before .before .before .list4 .ensures .0)) in
-    let g = ap (floatsIn 52) (l .before .before .list5 .ensures .0) in
-    let h = ap (floatsIn 64) (l .before .list6 .ensures .0) in
-    let x = ap (floatsIn 16) (l .list7 .ensures .0) in
-    let n = w .objective .ensures .0 ∙ same-five objectiveNumber z g h x (ap roomIn (filled-length (o objectiveOutputs) (b .pre .1))) in
+    let z = same-sheet (ap (numbersIn 5) (l .before .before .before .before .before .before .before .list .ensures .0)) (ap (numbersIn 64) (l .before .before .before .before .before .before .list2 .ensures .0)) (ap (floatsIn 448) (l .before .before .before .before .before .list3 .ensures .0)) (ap (floatsIn 32) (l .before .before .before .before .list4 .ensures .0)) in
+    let t = same-three taskFrom (l .before .before .before .list5 .ensures .0) (l .before .before .list6 .ensures .0) (l .before .list7 .ensures .0) in
+    let x = ap (floatsIn 16) (l .list8 .ensures .0) in
+    let n = w .objective .ensures .0 ∙ same-four objectiveNumber z t x (ap roomIn (filled-length (o objectiveOutputs) (b .pre .1))) in
     c .one .ensures ∙ same-answer _ _ objectiveOutputs n (ap (λ a. a ∷ [])
-    (w .objective .ensures .1 ∙ left-written (o objectiveOutputs) n (b .pre .1) (ap bytesOf (same-four objectiveValue z g h x))))
+    (w .objective .ensures .1 ∙ left-written (o objectiveOutputs) n (b .pre .1) (ap bytesOf (same-three objectiveValue z t x))))
 
 pub objective-spec : {M : Type 1} → statement M
 objective-spec =
@@ -70,6 +72,7 @@ objective-spec =
     list-requires-5
     list-requires-6
     list-requires-7
+    list-requires-8
     objective-requires
     one-requires
     same-length

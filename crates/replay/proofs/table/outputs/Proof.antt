@@ -27,7 +27,11 @@ returns-5 c = (rw (le-ltb _ 2 (c .before .before .before .before .if1 .left), le
 
 returns-6 : tie.Need-returns-6
 unfolding outputsOf
-returns-6 c = (rw (le-ltb _ 2 (c .before .before .before .before .if1 .left), le-ltb _ 6 (c .before .before .before .if2 .left), le-ltb _ 8 (c .before .before .if3 .left), le-ltb _ 10 (c .before .if4 .left), ne-eqb _ 10 (c .if5 .left)), omega arith)
+returns-6 c = (rw (le-ltb _ 2 (c .before .before .before .before .before .if1 .left), le-ltb _ 6 (c .before .before .before .before .if2 .left), le-ltb _ 8 (c .before .before .before .if3 .left), le-ltb _ 10 (c .before .before .if4 .left), ne-eqb _ 10 (c .before .if5 .left), eq-eqb _ 42 (c .if6 .taken)), omega arith)
+
+returns-7 : tie.Need-returns-7
+unfolding outputsOf
+returns-7 c = (rw (le-ltb _ 2 (c .before .before .before .before .before .if1 .left), le-ltb _ 6 (c .before .before .before .before .if2 .left), le-ltb _ 8 (c .before .before .before .if3 .left), le-ltb _ 10 (c .before .before .if4 .left), ne-eqb _ 10 (c .before .if5 .left), ne-eqb _ 42 (c .if6 .left)), omega arith)
 
 pub outputs-spec : {M : Type 1} → statement M
-outputs-spec = tie.close (tie.spec returns returns-2 returns-3 returns-4 returns-5 returns-6)
+outputs-spec = tie.close (tie.spec returns returns-2 returns-3 returns-4 returns-5 returns-6 returns-7)

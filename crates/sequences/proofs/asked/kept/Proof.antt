@@ -29,7 +29,7 @@ floats-requires : tie.Need-floats-requires
 floats-requires c κs = search needs
 
 slice-aggregate-floats-2 : tie.Need-slice-aggregate-floats-2
-slice-aggregate-floats-2 c = search needs
+slice-aggregate-floats-2 c = sym (arrays (c .before .before .before .before .before .before .before .before .before .before .before .before .before) .1)
 
 floats-requires-2 : tie.Need-floats-requires-2
 floats-requires-2 c κs = search needs

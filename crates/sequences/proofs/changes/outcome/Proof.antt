@@ -12,6 +12,7 @@ use Rattle.state_calls.proofs.state.empty.Reads as empty-reads
 use Rattle.sequences.proofs.changes.load_stored.Reads as load-stored-reads
 use Rattle.sequences.proofs.changes.reset.Reads as reset-reads
 use Rattle.sequences.proofs.changes.set_goals.Reads as set-goals-reads
+use Rattle.sequences.proofs.changes.set_weights.Reads as set-weights-reads
 use Rattle.sequences.proofs.changes.update.Reads as update-reads
 
 empty-requires : tie.Need-empty-requires
@@ -49,11 +50,18 @@ returns-5 : tie.Need-returns-5
 unfolding outcomeAt
 returns-5 c = rw (c .before .match .keys5) (c .update .ensures)
 
+set-weights-requires : tie.Need-set-weights-requires
+set-weights-requires c κs = search needs
+
 returns-6 : tie.Need-returns-6
 unfolding outcomeAt
-returns-6 c =
+returns-6 c = rw (c .before .match .keys6) (c .set-weights .ensures)
+
+returns-7 : tie.Need-returns-7
+unfolding outcomeAt
+returns-7 c =
     let r = c .match .rest in
-    rw (ne-eqb _ 0 (r .0 .0 .0 .0 .1), ne-eqb _ 1 (r .0 .0 .0 .1), ne-eqb _ 2 (r .0 .0 .1), ne-eqb _ 3 (r .0 .1), ne-eqb _ 4 (r .1))
+    rw (ne-eqb _ 0 (r .0 .0 .0 .0 .0 .1), ne-eqb _ 1 (r .0 .0 .0 .0 .1), ne-eqb _ 2 (r .0 .0 .0 .1), ne-eqb _ 3 (r .0 .0 .1), ne-eqb _ 4 (r .0 .1), ne-eqb _ 13 (r .1))
 
 pub outcome-spec : {M : Type 1} → statement M
 outcome-spec =
@@ -69,4 +77,6 @@ outcome-spec =
     returns-4
     update-requires
     returns-5
-    returns-6)
+    set-weights-requires
+    returns-6
+    returns-7)

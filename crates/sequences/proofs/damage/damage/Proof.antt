@@ -1,5 +1,5 @@
 -- `damage` meets its contract: the first damage found is the list's.
-use Rattle.sequences.specs.Table.{listsOf}
+use Rattle.sequences.specs.Table.{lastCall, listsOf}
 use Rattle.sequences.specs.Steps.{endOf, recordAt}
 use Rattle.stored_answers.specs.Stored.{numberAt}
 use lib.ListN.{length}
@@ -13,7 +13,7 @@ use Rattle.sequences.proofs.damage.damage.Statement.{statement}
 use Rattle.sequences.proofs.damage.damage.Tie as tie
 
 abbrev Inv-loop : tie.InvT-loop
-Inv-loop s n at₀ i₀ at i = (i ≤ n) × (at ≡ recordAt s i) × (at ≤ 2 + 786448 * i) × (damageTo listsOf 12 s i ≡ 0)
+Inv-loop s n at₀ i₀ at i = (i ≤ n) × (at ≡ recordAt s i) × (at ≤ 2 + 786448 * i) × (damageTo listsOf lastCall s i ≡ 0)
 
 abbrev μ-loop : tie.MeasureT-loop
 μ-loop s n at₀ i₀ at i = n - i
@@ -22,8 +22,8 @@ returns : tie.Need-returns Inv-loop μ-loop
 unfolding damageTo
 returns c =
     let s = c .before .before .args .s .now in
-    let z : damageTo listsOf 12 s 0 ≡ 1 = rw (lt-ltb (length s) 2 (c .if1 .taken)) in
-    sym (damage-found listsOf 12 s 0 (omega arith) (λ e. omega (arith, z, e)) ∙ z)
+    let z : damageTo listsOf lastCall s 0 ≡ 1 = rw (lt-ltb (length s) 2 (c .if1 .taken)) in
+    sym (damage-found listsOf lastCall s 0 (omega arith) (λ e. omega (arith, z, e)) ∙ z)
 
 number-at-requires : tie.Need-number-at-requires Inv-loop μ-loop
 number-at-requires c κs = omega arith
@@ -40,8 +40,8 @@ returns-2 c =
     let l = c .before .before .before .loop in
     let n = c .before .before .before .before in
     let s = n .before .before .before .args .s .now in
-    let e = damage-more listsOf 12 s (l .i) ∙ first-zero _ _ (l .inv .3) ∙ ap (damageAt listsOf 12 s) (sym (l .inv .1)) ∙ sym (c .before .record-damage .ensures) in
-    sym (damage-found listsOf 12 s (l .i + 1) (omega (arith, n .number-at .ensures .0)) (λ z. c .if2 .taken (sym e ∙ z)) ∙ e)
+    let e = damage-more listsOf lastCall s (l .i) ∙ first-zero _ _ (l .inv .3) ∙ ap (damageAt listsOf lastCall s) (sym (l .inv .1)) ∙ sym (c .before .record-damage .ensures) in
+    sym (damage-found listsOf lastCall s (l .i + 1) (omega (arith, n .number-at .ensures .0)) (λ z. c .if2 .taken (sym e ∙ z)) ∙ e)
 
 record-end-requires : tie.Need-record-end-requires Inv-loop μ-loop
 record-end-requires c κs = omega arith
@@ -59,7 +59,7 @@ loop-again c =
       omega arith,
       c .record-end .ensures .0 ∙ ap (endOf s) (l .inv .1) ∙ sym (record-next listsOf s (l .i)),
       omega arith,
-      damage-more listsOf 12 s (l .i) ∙ first-zero _ _ (l .inv .3) ∙ ap (damageAt listsOf 12 s) (sym (l .inv .1)) ∙ sym (c .before .before .record-damage .ensures) ∙ c .before .if2 .left,
+      damage-more listsOf lastCall s (l .i) ∙ first-zero _ _ (l .inv .3) ∙ ap (damageAt listsOf lastCall s) (sym (l .inv .1)) ∙ sym (c .before .before .record-damage .ensures) ∙ c .before .if2 .left,
     )
 
 returns-3 : tie.Need-returns-3 Inv-loop μ-loop
@@ -71,7 +71,7 @@ returns-3 c =
     let e : l .i ≡ n .number-at .result = omega arith in
     let q = e ∙ n .number-at .ensures .0 in
     let p = l .inv .1 ∙ ap (recordAt s) q in
-    sym (first-zero _ _ (ap (damageTo listsOf 12 s) (sym q) ∙ l .inv .3) ∙ rw (ne-eqb (recordAt s (numberAt s 0)) (length s) (λ z. c .if3 .taken (p ∙ z))))
+    sym (first-zero _ _ (ap (damageTo listsOf lastCall s) (sym q) ∙ l .inv .3) ∙ rw (ne-eqb (recordAt s (numberAt s 0)) (length s) (λ z. c .if3 .taken (p ∙ z))))
 
 returns-4 : tie.Need-returns-4 Inv-loop μ-loop
 unfolding damageBy
@@ -82,7 +82,7 @@ returns-4 c =
     let e : l .i ≡ n .number-at .result = omega arith in
     let q = e ∙ n .number-at .ensures .0 in
     let p = l .inv .1 ∙ ap (recordAt s) q in
-    sym (first-zero _ _ (ap (damageTo listsOf 12 s) (sym q) ∙ l .inv .3) ∙ rw (eq-eqb (recordAt s (numberAt s 0)) (length s) (sym p ∙ c .if3 .left)))
+    sym (first-zero _ _ (ap (damageTo listsOf lastCall s) (sym q) ∙ l .inv .3) ∙ rw (eq-eqb (recordAt s (numberAt s 0)) (length s) (sym p ∙ c .if3 .left)))
 
 pub damage-spec : {M : Type 1} → statement M
 damage-spec =

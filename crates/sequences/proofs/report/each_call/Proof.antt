@@ -5,16 +5,17 @@ use native.Mathlib.Omega.{arith}
 use borrow.Author.Needs.{needs}
 use Rattle.lent_bytes.specs.SheetLists.{same-two}
 use Rattle.stored_answers.specs.Records.{sumOf, sum-more}
+use Rattle.sequences.specs.Table.{calls}
 use Rattle.sequences.specs.Steps.{casesOf, differOf}
 use Rattle.sequences.proofs.report.each_call.Statement.{statement}
 use Rattle.sequences.proofs.report.each_call.Tie as tie
 
 abbrev Inv-loop : tie.InvT-loop
 Inv-loop s all₀ call₀ all call =
-    (call ≤ 13) × (all .cases ≡ sumOf (casesOf s) call) × (all .differ ≡ sumOf (differOf s) call) × (all .cases ≤ 65535 * call) × (all .differ ≤ 65535 * call)
+    (call ≤ calls) × (all .cases ≡ sumOf (casesOf s) call) × (all .differ ≡ sumOf (differOf s) call) × (all .cases ≤ 65535 * call) × (all .differ ≤ 65535 * call)
 
 abbrev μ-loop : tie.MeasureT-loop
-μ-loop s all₀ call₀ all call = 13 - call
+μ-loop s all₀ call₀ all call = calls - call
 
 loop-holds : tie.Need-loop-holds Inv-loop μ-loop
 unfolding sumOf
@@ -57,7 +58,7 @@ returns : tie.Need-returns Inv-loop μ-loop
 returns c =
     let l = c .before .loop in
     let s = c .before .before .before .args .s .now in
-    let e : l .call ≡ 13 = omega arith in
+    let e : l .call ≡ calls = omega arith in
     (l .inv .1 ∙ ap (sumOf (casesOf s)) e, l .inv .2 ∙ ap (sumOf (differOf s)) e)
 
 pub each-call-spec : {M : Type 1} → statement M

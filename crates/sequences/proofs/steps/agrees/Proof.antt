@@ -41,7 +41,14 @@ kept-requires c κs = search needs
 
 returns-4 : tie.Need-returns-4
 unfolding stepAgrees callAgrees
-returns-4 c = rw (← c .before .before .before .before .number-at .ensures .0, le-ltb _ 5 (c .before .before .before .if1 .left), le-ltb _ 11 (c .before .before .if2 .left), ne-eqb _ 11 (c .before .if3 .left)) (c .kept .ensures)
+returns-4 c = rw (← c .before .before .before .before .before .number-at .ensures .0, le-ltb _ 5 (c .before .before .before .before .if1 .left), le-ltb _ 11 (c .before .before .before .if2 .left), ne-eqb _ 11 (c .before .before .if3 .left), eq-eqb _ 12 (c .before .if4 .taken)) (c .kept .ensures)
+
+changed-requires-2 : tie.Need-changed-requires-2
+changed-requires-2 c κs = search needs
+
+returns-5 : tie.Need-returns-5
+unfolding stepAgrees callAgrees
+returns-5 c = rw (← c .before .before .before .before .before .number-at .ensures .0, le-ltb _ 5 (c .before .before .before .before .if1 .left), le-ltb _ 11 (c .before .before .before .if2 .left), ne-eqb _ 11 (c .before .before .if3 .left), ne-eqb _ 12 (c .before .if4 .left)) (c .changed2 .ensures)
 
 pub agrees-spec : {M : Type 1} → statement M
 agrees-spec =
@@ -55,4 +62,6 @@ agrees-spec =
     gradient-one-block-requires
     returns-3
     kept-requires
-    returns-4)
+    returns-4
+    changed-requires-2
+    returns-5)

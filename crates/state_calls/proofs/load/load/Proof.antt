@@ -36,8 +36,8 @@ empty-party-requires c κs = search needs
 returns-2 : tie.Need-returns-2
 unfolding loadOf outcomeOf
 returns-2 c =
-    let n = c .before .before .before .load-refusal in
-    let e : loadRefusal _ _ _ _ ≡ 0 = sym (n .ensures) ∙ goes-on (c .before .before) in
+    let n = c .before .before .before .before .load-refusal in
+    let e : loadRefusal _ _ _ _ ≡ 0 = sym (n .ensures) ∙ goes-on (c .before .before .before) in
     rw e (cc)
 
 pub load-spec : {M : Type 1} → statement M

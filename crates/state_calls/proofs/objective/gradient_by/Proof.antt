@@ -29,7 +29,9 @@ slice-aggregate-gradient-on-4 : tie.Need-slice-aggregate-gradient-on-4
 slice-aggregate-gradient-on-4 c = search needs
 
 gradient-on-requires : tie.Need-gradient-on-requires
-gradient-on-requires c κs = search needs
+gradient-on-requires c κs =
+    let l = lists (c .before .before .before .before .before .before .before .before .before .before .before .before .before .before .before .before .before .before .before .before) in
+    record { sizes = l .sizes; codes = l .codes; floats = l .floats; whole = c .before .before .before .before .before .before .before .lay-task .kept .1 .1 .1 .0 }
 
 same-length : tie.Need-same-length
 same-length c = search needs
@@ -41,7 +43,7 @@ returns : tie.Need-returns
 unfolding slopesStored
 returns c =
     let m = c .before .before .before .before .gradient-on in
-    let s = c .before .before .before .before .before .before .before .before .before .before .before .before .before .before .before .before .before .before .before .before .before .before .before .before in
+    let s = c .before .before .before .before .before .before .before .before .before .before .before .before .before .before .before .before .before .before .before .before .before .before .before .before .before in
     let a = s .args in
     let x = now (a .joints) in
     let e = c .before .before .before .before .before .before .before .before .before .before .before .before .lay-task .ensures in (

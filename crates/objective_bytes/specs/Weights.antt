@@ -1,0 +1,81 @@
+-- The weights that a byte call is lent: none, the built-in table as a list, or others.
+use mathlib.Core.Path.{_≡_, refl, sym, ap, _∙_}
+use mathlib.Core.List.{List, []}
+use Prim.Native.Nat.{ℕ}
+use native.Mathlib.Omega.{arith}
+use borrow.Author.Tests.{eq-eqb, ne-eqb}
+use lib.Ieee.{Float, ofBits, toBits}
+use lib.ListN.{length}
+use Rattle.lists.specs.Runs.{runs}
+use Rattle.lists.specs.Listed.{listed}
+use Rattle.task.specs.Task.{Given}
+use Rattle.refusals.specs.Lengths.{scratchLength, slopesLength, valueLength}
+use Rattle.refusals.specs.Lowest.{firstOf, first-last}
+use Rattle.refusals.specs.Refusal.{roomRefusal, weightsRefusal}
+use Rattle.objective_master.specs.Weights.{weightPriors, inForce, none-in-force, loaded-in-force}
+use Rattle.gradient.specs.Gradient.{valueAt, slopesOf}
+use Rattle.gradient.specs.declared.slopes.Rule.{Rule}
+use Rattle.calls.specs.Weights.{builtIn, priors-pass, built-in-same}
+use Rattle.lent_bytes.specs.Bytes.{floatAt}
+use Rattle.lent_bytes.specs.Lent.{countIn, floatsIn, bytesOfEach, bytesOf}
+use Rattle.lent_bytes.specs.declared.optional.Optional.the-variants.{Empty, Floats, WrongLength}
+use Rattle.lent_bytes.specs.Optional.{optionalIn, left-out, only-left-out}
+use Rattle.lent_bytes.specs.SheetLists.{SheetLists}
+use Rattle.objective_bytes.specs.ObjectiveCalls.{weightsFrom, inForceFrom, TaskLists, taskNumber, objectiveNumber, slopesNumber, givenLent, valueIn, slopesIn}
+
+-- ---- which weights are in force
+-- a list without a byte: the built-in ones
+pub none-lent : inForceFrom [] ≡ weightPriors
+unfolding inForceFrom
+none-lent = none-in-force (weightsFrom [])
+
+-- a list with a byte: what it holds
+pub some-in-force : (b : List ℕ) → (length b ≡ 0 → ⊥) → inForceFrom b ≡ weightsFrom b
+unfolding inForceFrom
+some-in-force b h = rw (ne-eqb (length b) 0 h) (loaded-in-force (weightsFrom b))
+
+-- told by the decoder: a list that is left out, one of so many floats, one of a wrong length
+pub left-out-in-force : (b : List ℕ) → optionalIn 8 b ≡ Empty → inForceFrom b ≡ weightPriors
+unfolding inForceFrom
+left-out-in-force b e = rw (eq-eqb (length b) 0 (only-left-out 8 b e)) (none-in-force (weightsFrom b))
+
+pub floats-in-force : (b : List ℕ) (n : ℕ) → optionalIn 8 b ≡ Floats n → inForceFrom b ≡ weightsFrom b
+floats-in-force b n e = some-in-force b (λ z. let k : Empty ≡ Floats n = sym (left-out 8 b z) ∙ e in let u : _≡_ {A = ℕ} 0 1 = cc in omega arith)
+
+pub wrong-in-force : (b : List ℕ) → optionalIn 8 b ≡ WrongLength → inForceFrom b ≡ weightsFrom b
+wrong-in-force b e = some-in-force b (λ z. let k : Empty ≡ WrongLength = sym (left-out 8 b z) ∙ e in let u : _≡_ {A = ℕ} 0 1 = cc in omega arith)
+
+-- the bytes of the built-in ones
+pub built-in-lent : inForceFrom (bytesOf weightPriors) ≡ weightPriors
+unfolding inForceFrom inForce floatsIn countIn listed runs floatAt bytesOf bytesOfEach weightPriors ofBits toBits
+built-in-lent = refl
+
+-- ---- what was answered before there were weights to lend
+pub no-ten : (ws : List Float) → ws ≡ weightPriors → weightsRefusal ws ≡ 0
+no-ten ws e = ap weightsRefusal e ∙ priors-pass
+
+-- with the built-in weights in force, lent or not, numbers and answers are those
+module _ (s : SheetLists) (t : TaskLists) (x : List Float) (e : t .weights ≡ weightPriors) where
+  pub objective-number-built-in : (value : ℕ) → objectiveNumber s t x value ≡ firstOf (taskNumber s (t .goals) (t .history) x) (roomRefusal valueLength value)
+  unfolding objectiveNumber
+  objective-number-built-in value = ap (firstOf (taskNumber s (t .goals) (t .history) x)) (first-last _ _ (no-ten _ e))
+
+  pub slopes-number-built-in : (scratch value slopes : ℕ) → slopesNumber s t x scratch value slopes
+      ≡ firstOf (taskNumber s (t .goals) (t .history) x)
+      (firstOf (roomRefusal (scratchLength (s .codes)) scratch) (firstOf (roomRefusal valueLength value) (roomRefusal (slopesLength (s .codes)) slopes)))
+  unfolding slopesNumber
+  slopes-number-built-in scratch value slopes =
+      ap (λ (n : ℕ). firstOf (taskNumber s (t .goals) (t .history) x) (firstOf (roomRefusal (scratchLength (s .codes)) scratch) (firstOf (roomRefusal valueLength value) n)))
+      (first-last _ _ (no-ten _ e))
+
+  given-built-in : givenLent s t ≡ builtIn (givenLent s t)
+  unfolding givenLent
+  given-built-in = built-in-same (givenLent s t) e
+
+  pub value-built-in : valueIn s t x ≡ valueAt (builtIn (givenLent s t)) (s .floats) x
+  unfolding valueIn
+  value-built-in = ap (λ (g : Given). valueAt g (s .floats) x) given-built-in
+
+  pub slopes-built-in : (rule : Rule) → slopesIn rule s t x ≡ slopesOf rule (builtIn (givenLent s t)) (s .floats) x
+  unfolding slopesIn
+  slopes-built-in rule = ap (λ (g : Given). slopesOf rule g (s .floats) x) given-built-in
