@@ -1,5 +1,5 @@
-/* The rig's loop on the proved library: reserve the lists, load the arm, set the goal, reset, then round after round a gradient, a small step
- * down and an update.
+/* The rig's loop on the proved library: reserve the lists, load the arm, set weights and goal, reset, then round after round a gradient, a
+ * small step down and an update.
  *
  *   cc -std=c99 -Iinclude examples/controller.c target/staticlib/libexports.a -o controller
  *
@@ -30,6 +30,8 @@ enum {
     LIST(double, floats, LINKS * RELAXED_IK_LINK_FLOATS)    \
     LIST(double, limits, JOINTS * RELAXED_IK_LIMIT_FLOATS)  \
     LIST(double, goals, CHAINS * RELAXED_IK_GOAL_FLOATS)    \
+    LIST(double, weights, RELAXED_IK_WEIGHT_FLOATS)         \
+    LIST(double, new_weights, RELAXED_IK_WEIGHT_FLOATS)     \
     LIST(double, joints, JOINTS)
 #define WRITTEN_LISTS(LIST)                                 \
     LIST(double, history, JOINTS * RELAXED_IK_HISTORY_BLOCKS) \
@@ -152,6 +154,7 @@ static const char *words(uint32_t answer) {
     case RELAXED_IK_WRONG_JOINTS: return "a joint out of range";
     case RELAXED_IK_WRONG_GOALS: return "wrong goals";
     case RELAXED_IK_TOO_SHORT: return "a list that is too short";
+    case RELAXED_IK_WRONG_WEIGHTS: return "wrong weights";
     default: return "a number that no call has";
     }
 }
@@ -179,6 +182,9 @@ static const double mast_floats[LINKS][RELAXED_IK_LINK_FLOATS] = {
 static const double start[JOINTS] = {0.2, -0.3, 0.5, 0.1, 0.4, 0.1, 0.0};
 static const double taught[JOINTS] = {0.35, -0.2, 0.6, 0.05, 0.5, 0.0, 0.1};
 static const double tolerances[6] = {0.0, 0.0, 0.05, 0.1, 0.1, 3.2};
+/* In granite the azimuth, which is of the rotation, counts for more than the depth: position, rotation, limits, velocity, acceleration, jerk,
+ * manipulability, pairs. */
+static const double granite[RELAXED_IK_WEIGHT_FLOATS] = {20.0, 60.0, 0.1, 0.7, 0.5, 0.3, 1.0, 0.01};
 
 static void fill(void) {
     int i;
@@ -236,6 +242,31 @@ static void copy_out(void *to, struct part list, size_t entry, size_t size) {
     memcpy(to, list.at + entry * size, size);
 }
 
+/* A list is looked at before it takes the place of the one in force, so a refused list changes nothing. */
+static int set_weights(const char *what, const double *list) {
+    memcpy(new_weights.at, list, sizeof new_weights.at);
+    if (!taken(what, ASK(relaxed_ik_set_weights(READ(new_weights))))) return 0;
+    memcpy(weights.at, new_weights.at, sizeof weights.at);
+    return 1;
+}
+
+static void print_weights(const char *when) {
+    const double *w = weights.at;
+    printf("%s: position %g, rotation %g\n", when, w[RELAXED_IK_WEIGHT_POSITION], w[RELAXED_IK_WEIGHT_ROTATION]);
+}
+
+/* Sets the crew's table. A list that somebody mistyped is then told by its number, and the table stays in force. */
+static int weigh(void) {
+    double mistyped[RELAXED_IK_WEIGHT_FLOATS];
+    if (!set_weights("set weights", granite)) return 0;
+    print_weights("weights set");
+    memcpy(mistyped, granite, sizeof mistyped);
+    mistyped[RELAXED_IK_WEIGHT_ROTATION] = 6000.0;
+    if (set_weights("a rotation of 6000", mistyped) || memcmp(weights.at, granite, sizeof granite) != 0) return 0;
+    print_weights("they stay");
+    return 1;
+}
+
 static int pose(void) {
     return taken("pose", ASK(relaxed_ik_pose(SHEET, READ(joints), WRITE(ends))));
 }
@@ -261,8 +292,8 @@ static int rounds(void) {
     uint16_t link, joint;
     int round, i;
     for (round = 0; round < ROUNDS; round++) {
-        if (!taken("gradient", ASK(relaxed_ik_gradient_one_block(SHEET, READ(goals), READ(history), READ(joints), WRITE(value), WRITE(slopes),
-                                   WRITE_PART(record_joints), WRITE_PART(record_links), WRITE_PART(record_poses)))))
+        if (!taken("gradient", ASK(relaxed_ik_gradient_one_block(SHEET, READ(goals), READ(history), READ(weights), READ(joints), WRITE(value),
+                                   WRITE(slopes), WRITE_PART(record_joints), WRITE_PART(record_links), WRITE_PART(record_poses)))))
             return 0;
         if (round % 25 == 0 || round == ROUNDS - 1) {
             /* The first walk's last pose is the end pose: no further call is needed for it. */
@@ -294,6 +325,7 @@ int main(void) {
     if (!reserve()) return 1;
     if (!taken("load", ASK(relaxed_ik_load(SHEET)))) return 1;
     printf("loaded: %d chain, %d links, %d joints\n", CHAINS, LINKS, JOINTS);
+    if (!weigh()) return 1;
 
     /* The goal: where the arm stands when it is at the taught block. */
     memcpy(joints.at, taught, sizeof taught);

@@ -10,11 +10,15 @@
  *   limits     2 for each joint: lower, upper; -999 and 999 for a joint that is free
  *   goals      13 for each chain: position, rotation w first, six tolerances (three of position, three of rotation)
  *   history    four blocks of joints in one list: the current one, then the three before it
+ *   weights    8 floats: position, rotation, limits, velocity, acceleration, jerk, manipulability, pairs; or none at all
  *   joints     a float for each joint, chain after chain
  *   plan       four u16s, by which lists are reserved: see relaxed_ik_sizing
  *
  * Lists named const are only read. Of the others the front is written; a longer list keeps its tail, and its length must be a whole number
  * of elements all the same.
+ *
+ * Weights. Each kind of objective counts by its weight, within 0..1000. A call that is lent no byte of weights takes the built-in ones: 50,
+ * 10, 0.1, 0.7, 0.5, 0.3, 1, 0.01. relaxed_ik_set_weights looks at a list before it is put to use; there an empty list is refused too.
  *
  * Answers. A call on lists answers 0 if it was taken, or the number of the refusal, and then every list is as it was. Where several refusals
  * hold, the lowest is the answer. The calls keep no state: everything is lent each time, and the answer depends on nothing else.
@@ -46,6 +50,7 @@ extern "C" {
 #define RELAXED_IK_WRONG_JOINTS 7    /* joints (or history) of the wrong length, or a value not within -8..8 */
 #define RELAXED_IK_WRONG_GOALS 8     /* not 13 a chain, position or tolerance not within -100..100, or rotation as in 6 */
 #define RELAXED_IK_TOO_SHORT 9       /* a list to be written is too short, or no whole number of elements */
+#define RELAXED_IK_WRONG_WEIGHTS 10  /* not eight, or a value not within 0..1000 */
 
 /* ---- fixed lengths, in elements */
 
@@ -56,6 +61,7 @@ extern "C" {
 #define RELAXED_IK_POSITION_FLOATS 3
 #define RELAXED_IK_ROTATION_FLOATS 4
 #define RELAXED_IK_HISTORY_BLOCKS 4
+#define RELAXED_IK_WEIGHT_FLOATS 8   /* weights, one a kind of objective */
 #define RELAXED_IK_PLAN_NUMBERS 4    /* u16s of a plan */
 
 /* Where each number of a plan stands. */
@@ -63,6 +69,16 @@ extern "C" {
 #define RELAXED_IK_PLAN_ROTATIONS 1  /* floats of its rotations */
 #define RELAXED_IK_PLAN_OBJECTIVES 2 /* objectives that are summed */
 #define RELAXED_IK_PLAN_RECORD 3     /* entries of the record of relaxed_ik_gradient_one_block */
+
+/* Where each weight stands. */
+#define RELAXED_IK_WEIGHT_POSITION 0
+#define RELAXED_IK_WEIGHT_ROTATION 1
+#define RELAXED_IK_WEIGHT_LIMITS 2
+#define RELAXED_IK_WEIGHT_VELOCITY 3
+#define RELAXED_IK_WEIGHT_ACCELERATION 4
+#define RELAXED_IK_WEIGHT_JERK 5
+#define RELAXED_IK_WEIGHT_MANIPULABILITY 6
+#define RELAXED_IK_WEIGHT_PAIRS 7    /* of links that could meet */
 
 /* The most that is taken. */
 #define RELAXED_IK_MOST_CHAINS 4
@@ -155,7 +171,11 @@ uint32_t relaxed_ik_update(
 
 /* ---- the objective and its slopes */
 
-/* The objective. Lent: the sheet, goals, history, joints. Comes back: one float. Answers 0 to 9. */
+/* Looks at weights. Lent: weights, and an empty list is refused. Comes back: the number alone. Answers 0, 10. */
+uint32_t relaxed_ik_set_weights(
+    const uint8_t *weights, size_t weights_length);
+
+/* The objective. Lent: the sheet, goals, history, weights, joints. Comes back: one float. Answers 0 to 10. */
 uint32_t relaxed_ik_objective(
     const uint8_t *sizes, size_t sizes_length,
     const uint8_t *codes, size_t codes_length,
@@ -163,11 +183,12 @@ uint32_t relaxed_ik_objective(
     const uint8_t *limits, size_t limits_length,
     const uint8_t *goals, size_t goals_length,
     const uint8_t *history, size_t history_length,
+    const uint8_t *weights, size_t weights_length,
     const uint8_t *joints, size_t joints_length,
     uint8_t *value, size_t value_length);
 
-/* The objective and its slopes by steps of 1e-7, loss by loss. Lent: the sheet, goals, history, joints. Comes back: scratch, a float a
- * joint, which ends equal to the joints; the value, one float; the slopes, one a joint. Answers 0 to 9. */
+/* The objective and its slopes by steps of 1e-7, loss by loss. Lent: the sheet, goals, history, weights, joints. Comes back: scratch, a
+ * float a joint, which ends equal to the joints; the value, one float; the slopes, one a joint. Answers 0 to 10. */
 uint32_t relaxed_ik_gradient(
     const uint8_t *sizes, size_t sizes_length,
     const uint8_t *codes, size_t codes_length,
@@ -175,12 +196,13 @@ uint32_t relaxed_ik_gradient(
     const uint8_t *limits, size_t limits_length,
     const uint8_t *goals, size_t goals_length,
     const uint8_t *history, size_t history_length,
+    const uint8_t *weights, size_t weights_length,
     const uint8_t *joints, size_t joints_length,
     uint8_t *scratch, size_t scratch_length,
     uint8_t *value, size_t value_length,
     uint8_t *slopes, size_t slopes_length);
 
-/* The objective and its slopes by steps of 1e-6 of the whole. The lists are those of relaxed_ik_gradient. Answers 0 to 9. */
+/* The objective and its slopes by steps of 1e-6 of the whole. The lists are those of relaxed_ik_gradient. Answers 0 to 10. */
 uint32_t relaxed_ik_gradient_finite_diff(
     const uint8_t *sizes, size_t sizes_length,
     const uint8_t *codes, size_t codes_length,
@@ -188,15 +210,16 @@ uint32_t relaxed_ik_gradient_finite_diff(
     const uint8_t *limits, size_t limits_length,
     const uint8_t *goals, size_t goals_length,
     const uint8_t *history, size_t history_length,
+    const uint8_t *weights, size_t weights_length,
     const uint8_t *joints, size_t joints_length,
     uint8_t *scratch, size_t scratch_length,
     uint8_t *value, size_t value_length,
     uint8_t *slopes, size_t slopes_length);
 
 /* What relaxed_ik_gradient answers, bit for bit, without scratch, and the record of the links it walked. Lent: the sheet, goals, history,
- * joints. Comes back: the value, one float; the slopes, one a joint; the record as three parallel lists, in the order walked: the joint
- * raised (u16; 65535 in the first walk), the link (u16), both numbered across chains, and the pose after that link (7 floats). The record
- * has all links, then for each joint those from its own to its chain's end. Answers 0 to 9. */
+ * weights, joints. Comes back: the value, one float; the slopes, one a joint; the record as three parallel lists, in the order walked: the
+ * joint raised (u16; 65535 in the first walk), the link (u16), both numbered across chains, and the pose after that link (7 floats). The
+ * record has all links, then for each joint those from its own to its chain's end. Answers 0 to 10. */
 uint32_t relaxed_ik_gradient_one_block(
     const uint8_t *sizes, size_t sizes_length,
     const uint8_t *codes, size_t codes_length,
@@ -204,6 +227,7 @@ uint32_t relaxed_ik_gradient_one_block(
     const uint8_t *limits, size_t limits_length,
     const uint8_t *goals, size_t goals_length,
     const uint8_t *history, size_t history_length,
+    const uint8_t *weights, size_t weights_length,
     const uint8_t *joints, size_t joints_length,
     uint8_t *value, size_t value_length,
     uint8_t *slopes, size_t slopes_length,

@@ -12,12 +12,13 @@ static volatile unsigned char *lowest;
 
 static uint16_t sizes[2] = {1, JOINTS}, codes[JOINTS], plan[4], record_joints[400], record_links[400];
 static double floats[7 * JOINTS], limits[2 * JOINTS], goals[13], history[4 * JOINTS], joints[JOINTS];
+static double weights[8] = {50, 10, 0.1, 0.7, 0.5, 0.3, 1, 0.01};
 static double value[1], ends[7], blocks[4 * JOINTS], slopes[JOINTS], scratch[JOINTS], positions[3 * (JOINTS + 1)], rotations[4 * (JOINTS + 2)], record_poses[2800];
 
 #define LIST(a) (const uint8_t *)(a), sizeof(a)
 #define OUT(a) (uint8_t *)(a), sizeof(a)
 #define SHEET LIST(sizes), LIST(codes), LIST(floats), LIST(limits)
-#define STATE SHEET, LIST(goals), LIST(history), LIST(joints)
+#define STATE SHEET, LIST(goals), LIST(history), LIST(weights), LIST(joints)
 
 static void paint(void)
 {
@@ -70,6 +71,7 @@ int main(void)
     MEASURE("manipulability", relaxed_ik_manipulability(SHEET, LIST(joints), OUT(value)));
     MEASURE("reset", relaxed_ik_reset(SHEET, LIST(joints), OUT(blocks), OUT(ends)));
     MEASURE("update", relaxed_ik_update(SHEET, LIST(history), LIST(joints), OUT(blocks)));
+    MEASURE("set_weights", relaxed_ik_set_weights(LIST(weights)));
     MEASURE("objective", relaxed_ik_objective(STATE, OUT(value)));
     MEASURE("gradient", relaxed_ik_gradient(STATE, OUT(scratch), OUT(value), OUT(slopes)));
     MEASURE("gradient_finite_diff", relaxed_ik_gradient_finite_diff(STATE, OUT(scratch), OUT(value), OUT(slopes)));

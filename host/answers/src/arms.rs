@@ -1,11 +1,12 @@
 //! The byte calls: what they are lent, and what the reference answers.
 
 use crate::record::{answer_bytes, float_bytes, u16_bytes, Record, FILL};
-use reference::groove::objective_master::ObjectiveMaster;
 use reference::record::record;
 use reference::refusals::{self, f64s, u16s, RecordRoom, Room};
 use reference::sheet;
 use reference::sizing::{plan, PLAN};
+use reference::spacetime::robot::Robot;
+use reference::weights;
 
 /// By their numbers in the stored list.
 #[derive(Clone, Copy, Debug, PartialEq)]
@@ -23,6 +24,7 @@ pub enum Call {
     GradientOneBlock,
     /// The leaves' numbers lie before it.
     Sizing = 41,
+    SetWeights,
 }
 
 /// Those whose records come before the leaves'.
@@ -49,10 +51,14 @@ pub enum List {
     Limits,
     Goals,
     History,
+    Weights,
     Joints,
 }
 
-use List::{Codes, Floats, Goals, History, Joints, Limits, Sizes};
+use List::{Codes, Floats, Goals, History, Joints, Limits, Sizes, Weights};
+
+/// How many there are.
+const LISTS: usize = Joints as usize + 1;
 
 impl Call {
     pub fn read(self) -> &'static [List] {
@@ -60,11 +66,14 @@ impl Call {
             Call::Load => &[Sizes, Codes, Floats, Limits],
             Call::Sizing => &[Sizes, Codes, Floats],
             Call::SetGoals => &[Sizes, Codes, Floats, Limits, Goals],
+            Call::SetWeights => &[Weights],
             Call::Update => &[Sizes, Codes, Floats, Limits, History, Joints],
             Call::Objective
             | Call::Gradient
             | Call::GradientFiniteDiff
-            | Call::GradientOneBlock => &[Sizes, Codes, Floats, Limits, Goals, History, Joints],
+            | Call::GradientOneBlock => &[
+                Sizes, Codes, Floats, Limits, Goals, History, Weights, Joints,
+            ],
             _ => &[Sizes, Codes, Floats, Limits, Joints],
         }
     }
@@ -78,7 +87,7 @@ impl Call {
             walked,
         } = *counts;
         let floats: Vec<usize> = match self {
-            Call::Load | Call::SetGoals => vec![],
+            Call::Load | Call::SetGoals | Call::SetWeights => vec![],
             Call::Pose => vec![7 * chains],
             Call::Manipulability | Call::Objective => vec![1],
             Call::Update => vec![4 * joints],
@@ -113,7 +122,7 @@ pub struct Counts {
 /// The lists that a call is lent, as bytes.
 #[derive(Clone, Debug, Default)]
 pub struct Lent {
-    pub bytes: [Vec<u8>; 7],
+    pub bytes: [Vec<u8>; LISTS],
     pub counts: Counts,
 }
 
@@ -156,7 +165,8 @@ pub fn asked(call: Call, lent: &Lent, rooms: &[usize]) -> Record {
 fn answer(call: Call, lent: &Lent, rooms: &[usize]) -> (u32, Vec<Vec<u8>>) {
     let (mut sizes, mut codes) = (Vec::new(), Vec::new());
     let (mut floats, mut limits) = (Vec::new(), Vec::new());
-    let (mut goals, mut history, mut joints) = (Vec::new(), Vec::new(), Vec::new());
+    let (mut goals, mut history) = (Vec::new(), Vec::new());
+    let (mut weights, mut joints) = (Vec::new(), Vec::new());
     let sheet = refusals::Sheet {
         sizes: u16s(lent.get(Sizes), &mut sizes),
         codes: u16s(lent.get(Codes), &mut codes),
@@ -167,6 +177,7 @@ fn answer(call: Call, lent: &Lent, rooms: &[usize]) -> (u32, Vec<Vec<u8>>) {
         sheet,
         goals: f64s(lent.get(Goals), &mut goals),
         history: f64s(lent.get(History), &mut history),
+        weights: f64s(lent.get(Weights), &mut weights),
     };
     let number = refusal(call, &given, f64s(lent.get(Joints), &mut joints), rooms);
     if number != refusals::ACCEPTED || rooms.is_empty() {
@@ -176,7 +187,13 @@ fn answer(call: Call, lent: &Lent, rooms: &[usize]) -> (u32, Vec<Vec<u8>>) {
         return (number, vec![u16_bytes(&plan(&sizes, &codes, &floats))]);
     }
     let robot = sheet::robot(&sizes, &codes, &floats, &limits);
-    (number, written(call, robot, &goals, &history, &joints))
+    let given = Given {
+        goals: &goals,
+        history: &history,
+        weights: &weights,
+        joints: &joints,
+    };
+    (number, written(call, robot, &given))
 }
 
 fn refusal(
@@ -191,6 +208,7 @@ fn refusal(
         Call::Load => refusals::load(sheet),
         Call::Sizing => refusals::sizing(sheet, Room::of_u16_bytes(rooms[0])),
         Call::SetGoals => refusals::set_goals(sheet, given.goals),
+        Call::SetWeights => refusals::set_weights(given.weights),
         Call::Pose => refusals::pose(sheet, joints, room(0)),
         Call::Manipulability => refusals::manipulability(sheet, joints, room(0)),
         Call::Update => refusals::update(sheet, given.history, joints, room(0)),
@@ -211,17 +229,20 @@ fn refusal(
     }
 }
 
+/// What a call is lent besides the arms; an empty list where it is lent none.
+struct Given<'a> {
+    goals: &'a [f64],
+    history: &'a [f64],
+    weights: &'a [f64],
+    joints: &'a [f64],
+}
+
 /// What the published functions answer, laid out as bytes.
-fn written(
-    call: Call,
-    robot: reference::spacetime::robot::Robot,
-    goals: &[f64],
-    history: &[f64],
-    joints: &[f64],
-) -> Vec<Vec<u8>> {
+fn written(call: Call, robot: Robot, given: &Given) -> Vec<Vec<u8>> {
     let floats = |lists: &[&[f64]]| lists.iter().map(|list| answer_bytes(list)).collect();
+    let joints = given.joints;
     match call {
-        Call::Load | Call::SetGoals => Vec::new(),
+        Call::Load | Call::SetGoals | Call::SetWeights => Vec::new(),
         Call::Pose => floats(&[&sheet::ends(&robot, joints)]),
         Call::Manipulability => floats(&[&[robot.get_manipulability_immutable(joints)]]),
         Call::Frames => {
@@ -235,26 +256,21 @@ fn written(
         }
         Call::Update => {
             let mut vars = sheet::loaded(robot);
-            sheet::set_history(&mut vars, history);
+            sheet::set_history(&mut vars, given.history);
             vars.update(joints.to_vec());
             floats(&[&sheet::history(&vars)])
         }
-        _ => aimed(call, robot, goals, history, joints),
+        _ => aimed(call, robot, given),
     }
 }
 
-/// The calls on goals and history. The one-block gradient is `gradient`'s, its
-/// record that of walks of separate copies.
-fn aimed(
-    call: Call,
-    robot: reference::spacetime::robot::Robot,
-    goals: &[f64],
-    history: &[f64],
-    joints: &[f64],
-) -> Vec<Vec<u8>> {
+/// The calls on goals, history and weights. The one-block gradient is
+/// `gradient`'s, its record that of walks of separate copies.
+fn aimed(call: Call, robot: Robot, given: &Given) -> Vec<Vec<u8>> {
+    let joints = given.joints;
     let walks = record(&robot, joints);
-    let master = ObjectiveMaster::relaxed_ik(&robot.chain_lengths);
-    let vars = sheet::lent(robot, goals, history);
+    let master = weights::master(&robot.chain_lengths, given.weights);
+    let vars = sheet::lent(robot, given.goals, given.history);
     if call == Call::Objective {
         return vec![answer_bytes(&[master.call(joints, &vars)])];
     }

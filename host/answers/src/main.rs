@@ -11,6 +11,8 @@ mod leaves;
 mod record;
 mod sequences;
 mod sizing;
+mod weight_sequences;
+mod weights;
 
 use draw::Draw;
 use record::Record;
@@ -47,11 +49,16 @@ fn records(kind: Kind) -> Vec<Record> {
         Kind::Calls => {
             let mut records = cases::all(&mut draw);
             records.extend(leaves::all(&mut draw));
-            // Behind all others, which keep their bytes.
+            // What came later is behind all others, which keep their bytes.
             records.extend(sizing::all(&mut draw));
+            records.extend(weights::all(&mut draw));
             records
         }
-        Kind::Sequences => sequences::all(&mut draw),
+        Kind::Sequences => {
+            let mut records = sequences::all(&mut draw);
+            records.extend(weight_sequences::all(&mut draw));
+            records
+        }
     }
 }
 
@@ -119,6 +126,30 @@ mod tests {
                 found == record::stored(&records(kind)).expect("a list"),
                 "write crates/{name}/stdin again at the root"
             );
+        }
+    }
+
+    /// What was stored before there were weights: records, bytes, their FNV-1a sum.
+    const BEFORE_WEIGHTS: [(Kind, usize, usize, u64); 2] = [
+        (Kind::Calls, 1126, 305_604, 0x052b_4a88_88d8_9df9),
+        (Kind::Sequences, 1275, 363_994, 0x4480_a2d4_96b5_6c87),
+    ];
+
+    /// The older records without their empty list of weights are the older file,
+    /// byte for byte.
+    #[test]
+    fn older_records_keep_their_bytes() {
+        let list = arms::List::Weights as usize;
+        for (kind, count, length, sum) in BEFORE_WEIGHTS {
+            let mut older = records(kind);
+            older.truncate(count);
+            // A call on the state is lent no weights.
+            let lent = |record: &Record| kind == Kind::Calls && weights::is_weighted(record);
+            for record in older.iter_mut().filter(|record| lent(record)) {
+                assert!(record.lists.remove(list).is_empty());
+            }
+            let bytes = record::stored(&older).expect("a list");
+            assert_eq!((bytes.len(), draw::fnv(&bytes)), (length, sum));
         }
     }
 }

@@ -1,17 +1,17 @@
 //! Sequences of calls on the state: what each is asked, and what it must
 //! answer. The published functions answer on one `RelaxedIKVars`; the rules of
-//! the state (20, 21 and 22 before all else, what a load clears, that a refused
-//! call changes nothing) are written here from document 01.
+//! the state (20, 21 and 22 before all else, what a load clears and what it keeps,
+//! that a refused call changes nothing) are written here from the papers.
 
 use crate::arms::{Lent, List};
 use crate::cases::{lent, Fault, Shape, FAULTS, LARGE, SHAPES, SMALL};
 use crate::record::{answer_bytes, u16_bytes, Record};
 use draw::Draw;
-use reference::groove::objective_master::ObjectiveMaster;
 use reference::groove::vars::RelaxedIKVars;
 use reference::record::record;
 use reference::refusals::{self, f64s, u16s, RecordRoom, Room, ACCEPTED};
 use reference::sheet;
+use reference::weights;
 
 /// By their numbers in the stored list.
 #[derive(Clone, Copy, Debug, PartialEq, Eq, PartialOrd, Ord)]
@@ -29,13 +29,15 @@ pub enum Step {
     Gradient,
     GradientFiniteDiff,
     GradientOneBlock,
-    /// No call: what the state keeps besides the arms.
+    /// No call: what the state keeps besides arms and weights.
     Kept,
+    /// Behind all others, which keep their numbers.
+    SetWeights,
 }
 
 use Step::*;
 
-pub const STEPS: [Step; 13] = [
+pub const STEPS: [Step; 14] = [
     Empty,
     Load,
     SetGoals,
@@ -49,6 +51,7 @@ pub const STEPS: [Step; 13] = [
     GradientFiniteDiff,
     GradientOneBlock,
     Kept,
+    SetWeights,
 ];
 
 impl Step {
@@ -58,12 +61,21 @@ impl Step {
             Empty | Kept => &[0],
             Load => &[0, 1, 2, 3, 4, 5, 6],
             SetGoals => &[0, 8, 20],
+            SetWeights => &[0, 10],
             Reset | Manipulability => &[0, 7, 20],
             Update => &[0, 7, 20, 22],
             Frames | Pose => &[0, 7, 9, 20],
             Objective => &[0, 7, 20, 21, 22],
             Gradient | GradientFiniteDiff | GradientOneBlock => &[0, 7, 9, 20, 21, 22],
         }
+    }
+
+    /// Whether it works with goals and history.
+    fn aims(self) -> bool {
+        matches!(
+            self,
+            Objective | Gradient | GradientFiniteDiff | GradientOneBlock
+        )
     }
 }
 
@@ -76,11 +88,13 @@ const ENOUGH: usize = 4096;
 
 /// What is kept between calls.
 #[derive(Default)]
-struct State {
+pub struct State {
     /// The sheet, and the published state over it: none before a load.
     arms: Option<(Lent, RelaxedIKVars)>,
     goals: Option<Vec<f64>>,
     started: bool,
+    /// Empty for none loaded.
+    weights: Vec<f64>,
 }
 
 /// The outputs of a call: its value, and lists of floats or of u16s.
@@ -94,16 +108,16 @@ use Output::{Floats, Numbers, Value};
 
 /// A step with the lists of `lent`. Outputs are as long as they need be, but for
 /// the last one, which is longer by `spare` numbers, or shorter.
-struct Asked<'a> {
-    step: Step,
-    lent: &'a Lent,
-    spare: isize,
+pub struct Asked<'a> {
+    pub step: Step,
+    pub lent: &'a Lent,
+    pub spare: isize,
 }
 
 impl State {
     /// 20 to 22.
     fn refusal(&self, step: Step) -> u32 {
-        let aimed = step >= Objective;
+        let aimed = step.aims();
         if self.arms.is_none() {
             20
         } else if aimed && self.goals.is_none() {
@@ -136,6 +150,7 @@ impl State {
             sheet,
             goals: refusals::List::of(&kept),
             history: refusals::List::of(&history),
+            weights: refusals::List::of(&self.weights),
         };
         let (enough, last) = (Room::of(ENOUGH), Room::of(last_room(asked, own)));
         match step {
@@ -187,7 +202,7 @@ impl State {
             return vec![];
         };
         let robot = &vars.robot;
-        let master = || ObjectiveMaster::relaxed_ik(&robot.chain_lengths);
+        let master = || weights::master(&robot.chain_lengths, &self.weights);
         match step {
             Frames => {
                 let (positions, rotations) = sheet::frames(robot, joints);
@@ -333,12 +348,13 @@ fn outputs(state: &State, asked: &Asked, number: u32) -> Vec<Vec<u8>> {
 }
 
 /// Makes a step: its record, and the state after it.
-fn play(state: &mut State, asked: &Asked) -> Record {
+pub fn play(state: &mut State, asked: &Asked) -> Record {
     let (step, lent) = (asked.step, asked.lent);
     let read: &[List] = match step {
         Empty | Kept => &[],
         Load => &[List::Sizes, List::Codes, List::Floats, List::Limits],
         SetGoals => &[List::Goals],
+        SetWeights => &[List::Weights],
         _ => &[List::Joints],
     };
     let mut lists: Vec<Vec<u8>> = read.iter().map(|&list| lent.get(list).to_vec()).collect();
@@ -352,6 +368,7 @@ fn play(state: &mut State, asked: &Asked) -> Record {
             ACCEPTED
         }
         Load => load(state, lent),
+        SetWeights => set_weights(state, lent),
         _ => {
             let number = state.number(asked);
             lists.extend(outputs(state, asked, number));
@@ -369,8 +386,8 @@ fn play(state: &mut State, asked: &Asked) -> Record {
     }
 }
 
-/// An accepted load clears goals and history; a refused one leaves all as it
-/// was.
+/// An accepted load clears goals and history and keeps the weights; a refused one
+/// leaves all as it was.
 fn load(state: &mut State, lent: &Lent) -> u32 {
     let (mut a, mut b, mut c, mut d) = (vec![], vec![], vec![], vec![]);
     let number = refusals::load(&sheet_of(lent, (&mut a, &mut b), (&mut c, &mut d)));
@@ -378,8 +395,19 @@ fn load(state: &mut State, lent: &Lent) -> u32 {
         let vars = sheet::loaded(sheet::robot(&a, &b, &c, &d));
         *state = State {
             arms: Some((lent.clone(), vars)),
+            weights: std::mem::take(&mut state.weights),
             ..State::default()
         };
+    }
+    number
+}
+
+/// Needs no arms; a refused list leaves the one before it.
+fn set_weights(state: &mut State, lent: &Lent) -> u32 {
+    let mut weights = vec![];
+    let number = refusals::set_weights(f64s(lent.get(List::Weights), &mut weights));
+    if number == ACCEPTED {
+        state.weights = weights;
     }
     number
 }
@@ -394,13 +422,14 @@ fn next(state: &State, draw: &mut Draw) -> Step {
     };
     match lacking {
         Some(step) if draw.below(3) == 0 => step,
-        _ => draw.pick(&STEPS[1..]),
+        // These sequences set no weights.
+        _ => draw.pick(&STEPS[1..SetWeights as usize]),
     }
 }
 
 /// Lists near those of the arms: other joints, both ends of their range and
 /// both zeros among them.
-fn near(own: &Lent, draw: &mut Draw) -> Lent {
+pub fn near(own: &Lent, draw: &mut Draw) -> Lent {
     let mut near = own.clone();
     let edge = draw.pick(&[8.0, -8.0, 0.0, -0.0]);
     let all = draw.below(8) == 0;
@@ -506,7 +535,7 @@ mod tests {
 
     #[test]
     fn every_number_is_met() {
-        let lines = counts(&all(&mut Draw::new(crate::SEED)));
+        let lines = counts(&crate::records(crate::Kind::Sequences));
         assert!(lines.is_ok(), "{lines:?}");
     }
 }

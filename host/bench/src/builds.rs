@@ -21,17 +21,49 @@ pub enum Build {
 
 #[cfg(feature = "two_builds")]
 mod linked {
+    use super::Build;
+    use std::sync::atomic::{AtomicBool, Ordering::Relaxed};
+
     unsafe extern "C" {
-        pub safe fn speed_ratio_take(build: u32);
+        safe fn speed_ratio_take(build: u32);
+        safe fn speed_ratio_weights(build: u32) -> u32;
+    }
+
+    /// Whether the build that was taken last has calls that are lent weights.
+    static WEIGHTS: AtomicBool = AtomicBool::new(false);
+
+    pub fn take(build: Build) {
+        speed_ratio_take(build as u32);
+        WEIGHTS.store(has_weights(build), Relaxed);
+    }
+
+    pub fn takes_weights() -> bool {
+        WEIGHTS.load(Relaxed)
+    }
+
+    /// By the function that sets weights: it came with the list.
+    pub fn has_weights(build: Build) -> bool {
+        speed_ratio_weights(build as u32) != 0
     }
 }
 
+#[cfg(feature = "two_builds")]
+pub use linked::{take, takes_weights};
+
 /// Sends the calls that follow to one build.
+#[cfg(not(feature = "two_builds"))]
 pub fn take(build: Build) {
-    #[cfg(feature = "two_builds")]
-    linked::speed_ratio_take(build as u32);
-    #[cfg(not(feature = "two_builds"))]
     unreachable!("{build:?}, where one build is linked");
+}
+
+/// Whether every build that is linked can be lent weights.
+pub fn all_take_weights() -> bool {
+    #[cfg(feature = "two_builds")]
+    return [Build::Before, Build::After]
+        .into_iter()
+        .all(linked::has_weights);
+    #[cfg(not(feature = "two_builds"))]
+    true
 }
 
 /// Nanoseconds a call before and after, and their ratio.

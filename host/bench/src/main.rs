@@ -14,6 +14,8 @@ mod objective;
 mod ratios;
 mod report;
 mod timing;
+#[cfg(feature = "objective")]
+mod weighted;
 
 use builds::{Build, Round};
 use ratios::Ratios;
@@ -31,6 +33,13 @@ For tools/speed_ratio, which links two builds of the library:
 bench --round WORD    times the proved side of the rows on both, a line for each
 bench --ratios FILE   prints tables of such lines
 bench --both WORD N   runs the proved side N times on both, untimed";
+
+/// In the name of a row that lends weights, between call and arm.
+const WITH_WEIGHTS: &str = " with weights";
+
+fn is_weighted(name: &str) -> bool {
+    name.contains(WITH_WEIGHTS)
+}
 
 /// Inputs of one pass; small enough to stay near the processor.
 const INPUTS: usize = 1024;
@@ -143,7 +152,8 @@ impl Rows {
                 let round = Round::new(inputs, &proved, &builds::take);
                 println!("{}", ratios::line(name, &round));
             }
-            Wish::Both(word, times) if name.contains(word.as_str()) => {
+            // Counts are by function, so each has one row on an arm.
+            Wish::Both(word, times) if name.contains(word.as_str()) && !is_weighted(name) => {
                 for build in [Build::Before, Build::After] {
                     builds::take(build);
                     let sum = repeated(inputs, *times, &proved);
@@ -231,6 +241,8 @@ fn all(rows: &mut Rows) {
     #[cfg(feature = "objective")]
     objective::losses(rows, &mut draw);
     calls(rows, &mut draw);
+    #[cfg(feature = "objective")]
+    objective::setting(rows, &mut draw);
 }
 
 /// Every call on arms of each size. Single chains of 2, 4, 8 and 16 joints

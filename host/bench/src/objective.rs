@@ -3,12 +3,15 @@
 //! the reference's structures are made beforehand.
 
 use crate::arms::{first, Chains};
-use crate::{Draw, Rows};
+use crate::builds::all_take_weights;
+use crate::weighted::{self, TwoBlocks};
+use crate::{Draw, Rows, WITH_WEIGHTS};
 use reference::groove::objective::{groove_loss, swamp_groove_loss, swamp_loss};
 use reference::groove::objective_master::ObjectiveMaster;
 use reference::groove::vars::RelaxedIKVars;
+use reference::weights::{self, WEIGHTS};
 use reference::{losses as published, record, refusals, sheet};
-use relaxed_ik::bytes::{self, put_floats, Given, Record};
+use relaxed_ik::bytes::{of_floats, put_floats, set_weights, Given, Record};
 use relaxed_ik::leaves;
 use std::cell::RefCell;
 
@@ -16,6 +19,8 @@ use std::cell::RefCell;
 const STATES: usize = 8;
 /// Of each kind.
 const TOLERANCES: [f64; 6] = [0.0, 0.1, 0.05, 0.0, 0.5, 3.2];
+/// A crew's own, to which azimuth means more than depth.
+const OWN: [f64; WEIGHTS] = [20.0, 60.0, 0.1, 0.7, 0.5, 0.3, 1.0, 0.01];
 
 pub fn losses(rows: &mut Rows, draw: &mut Draw) {
     let distances = draw.inputs(|d| d.between(-1.0, 1.0));
@@ -102,11 +107,12 @@ impl State {
         state
     }
 
-    fn given<'a>(&'a self, chains: &'a Chains) -> Given<'a> {
+    fn given<'a>(&'a self, chains: &'a Chains, weights: &'a [f64]) -> Given<'a> {
         Given {
             sheet: chains.sheet(),
             goals: &self.goals_bytes,
             history: &self.history_bytes,
+            weights: of_floats(weights),
         }
     }
 }
@@ -144,9 +150,6 @@ fn shown((value, slopes): (f64, Vec<f64>)) -> f64 {
     value + slopes[slopes.len() - 1]
 }
 
-/// A call on two blocks: joints, then scratch, value and slopes.
-type TwoBlocks = fn(Given, &[u8], &mut [u8], &mut [u8], &mut [u8]) -> u32;
-
 pub fn rows(rows: &mut Rows, draw: &mut Draw, label: &str, chains: &Chains) {
     let states: Vec<State> = (0..STATES).map(|_| State::new(chains, draw)).collect();
     let master = ObjectiveMaster::relaxed_ik(&chains.robot.chain_lengths);
@@ -155,16 +158,16 @@ pub fn rows(rows: &mut Rows, draw: &mut Draw, label: &str, chains: &Chains) {
     rows.row(
         &format!("objective, {label}"),
         &states,
-        |state| value(&mut lists.borrow_mut(), state, chains),
+        |state| value(&mut lists.borrow_mut(), state.given(chains, &[]), state),
         |state| master.call(&state.joints, &state.vars),
     );
     rows.row(
         &format!("gradient, {label}"),
         &states,
-        |state| two_blocks(bytes::gradient, &mut lists.borrow_mut(), state, chains),
+        |state| two_blocks(weighted::gradient, &mut lists.borrow_mut(), state, chains),
         |state| shown(master.gradient(&state.joints, &state.vars)),
     );
-    let coarse = bytes::gradient_finite_diff;
+    let coarse = weighted::gradient_finite_diff;
     rows.row(
         &format!("gradient_finite_diff, {label}"),
         &states,
@@ -175,33 +178,74 @@ pub fn rows(rows: &mut Rows, draw: &mut Draw, label: &str, chains: &Chains) {
     rows.row(
         &format!("gradient_one_block, {label}"),
         &states,
-        |state| one_block(&mut lists.borrow_mut(), state, chains),
+        |state| one_block(&mut lists.borrow_mut(), state.given(chains, &[]), state),
+        |state| shown(master.gradient(&state.joints, &state.vars)),
+    );
+    if all_take_weights() {
+        own_weights(rows, label, chains, &states, &lists);
+    }
+}
+
+/// The same with weights lent, beside the published list of priors with them set.
+fn own_weights(
+    rows: &mut Rows,
+    label: &str,
+    chains: &Chains,
+    states: &[State],
+    lists: &RefCell<Lists>,
+) {
+    let master = weights::master(&chains.robot.chain_lengths, &OWN);
+    rows.row(
+        &format!("objective{WITH_WEIGHTS}, {label}"),
+        states,
+        |state| value(&mut lists.borrow_mut(), state.given(chains, &OWN), state),
+        |state| master.call(&state.joints, &state.vars),
+    );
+    rows.row(
+        &format!("gradient_one_block{WITH_WEIGHTS}, {label}"),
+        states,
+        |state| one_block(&mut lists.borrow_mut(), state.given(chains, &OWN), state),
         |state| shown(master.gradient(&state.joints, &state.vars)),
     );
 }
 
-fn value(lists: &mut Lists, state: &State, chains: &Chains) -> f64 {
+/// Nothing published looks at weights: the other side is the plain reading of
+/// document 02 that the comparison uses.
+pub fn setting(rows: &mut Rows, draw: &mut Draw) {
+    let numbers = RefCell::new(Vec::new());
+    let inputs = draw.inputs(|d| of_floats(&d.floats::<WEIGHTS>(0.0, 1000.0)).to_vec());
+    rows.row(
+        "set_weights",
+        &inputs,
+        |bytes| f64::from(set_weights(bytes)),
+        |bytes| {
+            let numbers: &mut Vec<f64> = &mut numbers.borrow_mut();
+            f64::from(refusals::set_weights(refusals::f64s(bytes, numbers)))
+        },
+    );
+}
+
+fn value(lists: &mut Lists, given: Given, state: &State) -> f64 {
     let value = &mut lists.value;
-    let answer = bytes::objective(state.given(chains), &state.joints_bytes, value);
+    let answer = weighted::objective(given, &state.joints_bytes, value);
     assert_eq!(answer, refusals::ACCEPTED);
     first(value)
 }
 
 fn two_blocks(call: TwoBlocks, lists: &mut Lists, state: &State, chains: &Chains) -> f64 {
-    let (scratch, given) = (&mut lists.scratch, state.given(chains));
+    let (scratch, given) = (&mut lists.scratch, state.given(chains, &[]));
     let (value, slopes) = (&mut lists.value, &mut lists.slopes);
     let answer = call(given, &state.joints_bytes, scratch, value, slopes);
     shown_bytes(answer, value, slopes)
 }
 
-fn one_block(lists: &mut Lists, state: &State, chains: &Chains) -> f64 {
+fn one_block(lists: &mut Lists, given: Given, state: &State) -> f64 {
     let record = Record {
         joints: &mut lists.record_joints,
         links: &mut lists.record_links,
         poses: &mut lists.record_poses,
     };
     let (value, slopes) = (&mut lists.value, &mut lists.slopes);
-    let given = state.given(chains);
-    let answer = bytes::gradient_one_block(given, &state.joints_bytes, value, slopes, record);
+    let answer = weighted::gradient_one_block(given, &state.joints_bytes, value, slopes, record);
     shown_bytes(answer, value, slopes)
 }

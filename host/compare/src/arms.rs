@@ -1,12 +1,13 @@
-//! The byte calls on arms by name, and how each call is compared: its edges and
+//! The byte calls on arms and weights by name, and how each call is compared: its edges and
 //! its draws.
 
 use crate::calls::{exact, fitted, Call};
 use crate::run::Run;
 use crate::sheets::{damages, Damage, Fit, List, Lists, Shape, CODES};
-use crate::source::{Source, READ, WRITTEN};
-use crate::target::{Target, ARMS, SIZING};
+use crate::source::{Source, READ, WEIGHTS, WRITTEN};
+use crate::target::{Target, ARMS, SETTING, SIZING};
 use crate::trial::Trial;
+use crate::weights;
 
 pub fn targets() -> Vec<Target> {
     let arms = |name, about, kinds, run| Target::new(name, about, ARMS, kinds, run);
@@ -21,6 +22,9 @@ pub fn targets() -> Vec<Target> {
         ),
         arms("set_goals", "setting goals", READ, |run| {
             all(run, Call::SetGoals)
+        }),
+        Target::new("set_weights", "setting weights", SETTING, WEIGHTS, |run| {
+            all(run, Call::SetWeights)
         }),
         arms("frames", "positions and rotations", WRITTEN, |run| {
             all(run, Call::Frames)
@@ -41,9 +45,14 @@ pub fn targets() -> Vec<Target> {
 pub fn all(run: &mut Run, call: Call) {
     let mut trial = Trial::new(call, Call::ask);
     if run.edges() {
-        named(run, &mut trial);
-        every_code(run, &mut trial);
+        if call.read().contains(&List::Sizes) {
+            named(run, &mut trial);
+            every_code(run, &mut trial);
+        }
         every_fault(run, &mut trial);
+        if call.read().contains(&List::Weights) {
+            weights::edges(run, &mut trial);
+        }
     }
     let mut source = Source::new(call, run.kind);
     while run.more() {

@@ -14,6 +14,7 @@ pub enum Call {
     Load,
     Sizing,
     SetGoals,
+    SetWeights,
     Frames,
     Pose,
     Manipulability,
@@ -26,10 +27,11 @@ pub enum Call {
 }
 
 impl Call {
-    pub const ALL: [Self; 12] = [
+    pub const ALL: [Self; 13] = [
         Self::Load,
         Self::Sizing,
         Self::SetGoals,
+        Self::SetWeights,
         Self::Frames,
         Self::Pose,
         Self::Manipulability,
@@ -46,6 +48,7 @@ impl Call {
             Self::Load => "load",
             Self::Sizing => "sizing",
             Self::SetGoals => "set_goals",
+            Self::SetWeights => "set_weights",
             Self::Frames => "frames",
             Self::Pose => "pose",
             Self::Manipulability => "manipulability",
@@ -59,15 +62,18 @@ impl Call {
     }
 
     /// The lists it reads, the sheet's four first, but for sizing, which has no
-    /// limits.
+    /// limits, and for setting weights, which has no sheet.
     pub fn read(self) -> &'static [List] {
-        use List::{Codes, Floats, Goals, History, Joints, Limits, Sizes};
+        use List::{Codes, Floats, Goals, History, Joints, Limits, Sizes, Weights};
         match self {
             Call::Load => &[Sizes, Codes, Floats, Limits],
             Call::Sizing => &[Sizes, Codes, Floats],
             Call::SetGoals => &[Sizes, Codes, Floats, Limits, Goals],
+            Call::SetWeights => &[Weights],
             Call::Update => &[Sizes, Codes, Floats, Limits, History, Joints],
-            _ if self.aims() => &[Sizes, Codes, Floats, Limits, Goals, History, Joints],
+            _ if self.aims() => &[
+                Sizes, Codes, Floats, Limits, Goals, History, Weights, Joints,
+            ],
             _ => &[Sizes, Codes, Floats, Limits, Joints],
         }
     }
@@ -79,7 +85,10 @@ impl Call {
 
     /// Those after the sheet's.
     pub fn own(self) -> &'static [List] {
-        self.read().get(4..).unwrap_or_default()
+        match self {
+            Call::SetWeights => self.read(),
+            _ => self.read().get(4..).unwrap_or_default(),
+        }
     }
 
     /// Whether it looks how far joints are from goals and history.
@@ -103,7 +112,7 @@ impl Call {
         let (chains, links, joints) = (lists.chains, lists.links, lists.joints);
         let walked = lists.walked;
         match self {
-            Call::Load | Call::SetGoals => vec![],
+            Call::Load | Call::SetGoals | Call::SetWeights => vec![],
             Call::Sizing => vec![PLAN],
             Call::Frames => vec![3 * (links + chains), 4 * (links + 2 * chains)],
             Call::Pose => vec![7 * chains],
@@ -127,18 +136,23 @@ impl Call {
 
     /// The proved library's answer.
     pub fn ask(self, read: &[&[u8]], write: &mut [&mut [u8]]) -> u32 {
-        if let (Call::Sizing, [sizes, codes, floats], [plan]) = (self, read, &mut *write) {
-            return bytes::sizing(sizes, codes, floats, plan);
+        match (self, read) {
+            (Call::SetWeights, [weights]) => bytes::set_weights(weights),
+            (Call::Sizing, [sizes, codes, floats]) => bytes::sizing(sizes, codes, floats, write[0]),
+            (_, [sizes, codes, floats, limits, own @ ..]) => {
+                let sheet = bytes::Sheet {
+                    sizes,
+                    codes,
+                    floats,
+                    limits,
+                };
+                self.ask_sheet(sheet, own, write)
+            }
+            _ => panic!("lists that do not belong to {self:?}"),
         }
-        let [sizes, codes, floats, limits, own @ ..] = read else {
-            panic!("a sheet has four lists");
-        };
-        let sheet = bytes::Sheet {
-            sizes,
-            codes,
-            floats,
-            limits,
-        };
+    }
+
+    fn ask_sheet(self, sheet: bytes::Sheet, own: &[&[u8]], write: &mut [&mut [u8]]) -> u32 {
         match (self, own, write) {
             (Call::Load, [], []) => bytes::load(sheet),
             (Call::SetGoals, [goals], []) => bytes::set_goals(sheet, goals),
@@ -154,11 +168,12 @@ impl Call {
                 bytes::update(sheet, history, joints, renewed)
             }
             #[cfg(feature = "objective")]
-            (_, [goals, history, joints], write) => {
+            (_, [goals, history, weights, joints], write) => {
                 let given = bytes::Given {
                     sheet,
                     goals,
                     history,
+                    weights,
                 };
                 self.ask_given(given, joints, write)
             }

@@ -117,8 +117,11 @@ fn hexadecimal(bytes: &[u8]) -> String {
 /// The lists of a call, in the order of `names`, as a sheet. What the lines
 /// cannot hold is in comments before them, byte for byte.
 pub fn sheet(text: &mut Text, names: &[List], lists: &[&[u8]]) {
-    let chains = Chains::of([lists[0], lists[1], lists[2]]);
     let both = || names.iter().copied().zip(lists.iter().copied());
+    let chains = match lists {
+        [sizes, codes, floats, ..] => Chains::of([sizes, codes, floats]),
+        _ => None,
+    };
     for (name, bytes) in both() {
         let held = match name {
             List::Sizes | List::Codes | List::Floats => chains.is_some(),
@@ -134,7 +137,11 @@ pub fn sheet(text: &mut Text, names: &[List], lists: &[&[u8]]) {
         chains.write(text);
     }
     for (name, bytes) in both().filter(|(_, bytes)| bytes.len() % 8 == 0) {
-        rows(text, name, bytes);
+        // A sheet without the line is lent none; to set none is another thing.
+        let none = name == List::Weights && bytes.is_empty() && names.len() > 1;
+        if !none {
+            rows(text, name, bytes);
+        }
     }
 }
 
@@ -198,6 +205,7 @@ fn rows(text: &mut Text, name: List, bytes: &[u8]) {
             numbers.chunks(2).for_each(|pair| text.limits(pair));
             return;
         }
+        List::Weights => ("weights", count),
         List::Joints => ("joints", count),
         List::History if count % BLOCKS == 0 => ("history", count / BLOCKS),
         List::History => ("history", count),

@@ -1,12 +1,14 @@
 //! The reference's answers to the byte calls.
 
 use crate::calls::Call;
+use crate::sheets::List as Name;
 use reference::groove::objective_master::ObjectiveMaster;
 use reference::groove::vars::RelaxedIKVars;
 use reference::record::record;
 use reference::refusals::{self, f64s, u16s, Given, List, RecordRoom, Room, Sheet};
 use reference::sheet;
 use reference::sizing;
+use reference::weights::Weighted;
 use relaxed_ik::bytes::{put_floats, put_u16s};
 
 /// What a call writes to one of its outputs.
@@ -39,7 +41,7 @@ pub struct Judge {
 impl Judge {
     /// The number, and what is written if that is 0.
     pub fn answer(&mut self, call: Call, read: &[&[u8]], rooms: &[usize]) -> (u32, Vec<Written>) {
-        let lent = self.decoded.lend(read);
+        let lent = self.decoded.lend(call, read);
         let number = lent.number(call, rooms);
         if number != refusals::ACCEPTED || rooms.is_empty() {
             return (number, Vec::new());
@@ -47,11 +49,8 @@ impl Judge {
         if call == Call::Sizing {
             return (number, vec![U16s(lent.plan())]);
         }
-        let made = self.kept.made(read, &lent.sheet);
-        (
-            number,
-            made.written(call, lent.own.map(|list| list.numbers)),
-        )
+        let made = self.kept.made(read, &lent.given.sheet);
+        (number, made.written(call, &lent))
     }
 }
 
@@ -62,31 +61,38 @@ struct Decoded {
     codes: Vec<u16>,
     floats: Vec<f64>,
     limits: Vec<f64>,
-    own: [Vec<f64>; 3],
+    goals: Vec<f64>,
+    history: Vec<f64>,
+    weights: Vec<f64>,
+    joints: Vec<f64>,
 }
 
-/// What a call is lent: the sheet and up to three lists of its own.
+/// What a call is lent. A list that it does not read is empty.
 struct Lent<'a> {
-    sheet: Sheet<'a>,
-    own: [List<'a, f64>; 3],
+    given: Given<'a>,
+    joints: List<'a, f64>,
 }
 
 impl Decoded {
-    fn lend(&mut self, read: &[&[u8]]) -> Lent<'_> {
-        let list = |at: usize| read.get(at).copied().unwrap_or_default();
-        let [first, second, third] = &mut self.own;
+    fn lend(&mut self, call: Call, read: &[&[u8]]) -> Lent<'_> {
+        let list = |name: Name| {
+            let mut lent = call.read().iter().zip(read);
+            lent.find(|(own, _)| **own == name)
+                .map_or(&[][..], |(_, bytes)| bytes)
+        };
         Lent {
-            sheet: Sheet {
-                sizes: u16s(list(0), &mut self.sizes),
-                codes: u16s(list(1), &mut self.codes),
-                floats: f64s(list(2), &mut self.floats),
-                limits: f64s(list(3), &mut self.limits),
+            given: Given {
+                sheet: Sheet {
+                    sizes: u16s(list(Name::Sizes), &mut self.sizes),
+                    codes: u16s(list(Name::Codes), &mut self.codes),
+                    floats: f64s(list(Name::Floats), &mut self.floats),
+                    limits: f64s(list(Name::Limits), &mut self.limits),
+                },
+                goals: f64s(list(Name::Goals), &mut self.goals),
+                history: f64s(list(Name::History), &mut self.history),
+                weights: f64s(list(Name::Weights), &mut self.weights),
             },
-            own: [
-                f64s(list(4), first),
-                f64s(list(5), second),
-                f64s(list(6), third),
-            ],
+            joints: f64s(list(Name::Joints), &mut self.joints),
         }
     }
 }
@@ -94,12 +100,8 @@ impl Decoded {
 impl Lent<'_> {
     /// 0 or the number of the refusal, for outputs of so many bytes.
     fn number(&self, call: Call, rooms: &[usize]) -> u32 {
-        let (sheet, [first, second, third]) = (&self.sheet, self.own);
-        let given = Given {
-            sheet: *sheet,
-            goals: first,
-            history: second,
-        };
+        let (given, joints) = (&self.given, self.joints);
+        let sheet = &given.sheet;
         let room = |at: usize| match call.unit(at) {
             2 => Room::of_u16_bytes(rooms[at]),
             _ => Room::of_bytes(rooms[at]),
@@ -107,15 +109,16 @@ impl Lent<'_> {
         match call {
             Call::Load => refusals::load(sheet),
             Call::Sizing => refusals::sizing(sheet, room(0)),
-            Call::SetGoals => refusals::set_goals(sheet, first),
-            Call::Frames => refusals::frames(sheet, first, room(0), room(1)),
-            Call::Pose => refusals::pose(sheet, first, room(0)),
-            Call::Manipulability => refusals::manipulability(sheet, first, room(0)),
-            Call::Reset => refusals::reset(sheet, first, room(0), room(1)),
-            Call::Update => refusals::update(sheet, first, second, room(0)),
-            Call::Objective => refusals::objective(&given, third, room(0)),
+            Call::SetGoals => refusals::set_goals(sheet, given.goals),
+            Call::SetWeights => refusals::set_weights(given.weights),
+            Call::Frames => refusals::frames(sheet, joints, room(0), room(1)),
+            Call::Pose => refusals::pose(sheet, joints, room(0)),
+            Call::Manipulability => refusals::manipulability(sheet, joints, room(0)),
+            Call::Reset => refusals::reset(sheet, joints, room(0), room(1)),
+            Call::Update => refusals::update(sheet, given.history, joints, room(0)),
+            Call::Objective => refusals::objective(given, joints, room(0)),
             Call::Gradient | Call::GradientFiniteDiff => {
-                refusals::gradient(&given, third, room(0), room(1), room(2))
+                refusals::gradient(given, joints, room(0), room(1), room(2))
             }
             Call::GradientOneBlock => {
                 let record = RecordRoom {
@@ -123,7 +126,7 @@ impl Lent<'_> {
                     links: room(3),
                     poses: room(4),
                 };
-                refusals::gradient_one_block(&given, third, room(0), room(1), record)
+                refusals::gradient_one_block(given, joints, room(0), room(1), record)
             }
         }
     }
@@ -136,7 +139,7 @@ impl Lent<'_> {
             codes,
             floats,
             ..
-        } = self.sheet;
+        } = self.given.sheet;
         sizing::plan(sizes.numbers, codes.numbers, floats.numbers).to_vec()
     }
 }
@@ -167,7 +170,7 @@ impl Kept {
 /// The published structures for a sheet; the master once it is asked for.
 struct Made {
     vars: RelaxedIKVars,
-    master: Option<ObjectiveMaster>,
+    master: Option<Weighted>,
 }
 
 impl Made {
@@ -180,34 +183,33 @@ impl Made {
         }
     }
 
-    /// What a call writes that takes its own lists.
-    fn written(&mut self, call: Call, [first, second, third]: [&[f64]; 3]) -> Vec<Written> {
-        let vars = &mut self.vars;
+    /// What a call writes that takes what it is lent.
+    fn written(&mut self, call: Call, lent: &Lent) -> Vec<Written> {
+        let (vars, joints) = (&mut self.vars, lent.joints.numbers);
         let floats = match call {
-            Call::Load | Call::SetGoals => Vec::new(),
+            Call::Load | Call::SetGoals | Call::SetWeights => Vec::new(),
             Call::Frames => {
-                let (positions, rotations) = sheet::frames(&vars.robot, first);
+                let (positions, rotations) = sheet::frames(&vars.robot, joints);
                 vec![positions, rotations]
             }
-            Call::Pose => vec![sheet::ends(&vars.robot, first)],
-            Call::Manipulability => vec![vec![vars.robot.get_manipulability_immutable(first)]],
+            Call::Pose => vec![sheet::ends(&vars.robot, joints)],
+            Call::Manipulability => vec![vec![vars.robot.get_manipulability_immutable(joints)]],
             Call::Reset => {
-                vars.reset(first.to_vec());
+                vars.reset(joints.to_vec());
                 vec![sheet::history(vars), sheet::start_ends(vars)]
             }
             Call::Update => {
-                sheet::set_history(vars, first);
-                vars.update(second.to_vec());
+                sheet::set_history(vars, lent.given.history.numbers);
+                vars.update(joints.to_vec());
                 vec![sheet::history(vars)]
             }
             _ => {
-                sheet::set_goals(vars, first);
-                sheet::set_history(vars, second);
+                sheet::set_goals(vars, lent.given.goals.numbers);
+                sheet::set_history(vars, lent.given.history.numbers);
                 let lengths = &vars.robot.chain_lengths;
-                let master = self
-                    .master
-                    .get_or_insert_with(|| ObjectiveMaster::relaxed_ik(lengths));
-                return aimed(call, master, vars, third);
+                let own = self.master.get_or_insert_with(|| Weighted::new(lengths));
+                own.set(lent.given.weights.numbers);
+                return aimed(call, &own.master, vars, joints);
             }
         };
         floats.into_iter().map(Floats).collect()

@@ -27,6 +27,7 @@ mod state;
 mod tally;
 pub mod target;
 mod trial;
+pub mod weights;
 
 pub use draw;
 use target::Target;

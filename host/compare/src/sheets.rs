@@ -1,8 +1,9 @@
-//! Lists for the calls on arms: sheets that document 01 takes, with joints,
-//! histories and goals, and the ways to spoil them.
+//! Lists for the byte calls: sheets that document 01 takes, with joints,
+//! histories, goals and weights, and the ways to spoil them.
 
 use crate::draw::kind::Kind;
 use crate::draw::Draw;
+use crate::weights;
 use reference::refusals::{self, f64s, u16s};
 use reference::sheet;
 use relaxed_ik::bytes::{put_floats, put_u16s};
@@ -16,12 +17,14 @@ pub enum List {
     Limits,
     Goals,
     History,
+    Weights,
     Joints,
 }
 
-use List::{Codes, Floats, Goals, History, Joints, Limits, Sizes};
+use List::{Codes, Floats, Goals, History, Joints, Limits, Sizes, Weights};
 
-pub const LISTS: [List; 7] = [Sizes, Codes, Floats, Limits, Goals, History, Joints];
+/// How many there are.
+const LISTS: usize = Joints as usize + 1;
 
 /// Fixed, then revolute, continuous and prismatic about every axis.
 pub const CODES: [u16; 22] = [
@@ -36,7 +39,7 @@ pub type Shape = Vec<Vec<u16>>;
 /// One case's lists in bytes, and the counts that they were made for.
 #[derive(Default)]
 pub struct Lists {
-    bytes: [Vec<u8>; LISTS.len()],
+    bytes: [Vec<u8>; LISTS],
     pub chains: usize,
     pub links: usize,
     pub joints: usize,
@@ -138,9 +141,16 @@ impl Lists {
         lists
     }
 
-    /// Draws these anew: goals, history, joints.
+    /// Draws these anew: goals, history, weights, joints. A call that works with
+    /// weights is lent none as often as some; the one that sets them has some.
     pub fn renew(&mut self, lists: &[List], draw: &mut Draw) {
         for &list in lists {
+            if list == Weights {
+                let some = !lists.contains(&Joints) || draw.word() % 2 == 0;
+                let drawn = some.then(|| weights::drawn(draw));
+                self.set_floats(Weights, drawn.as_ref().map_or(&[], |list| list));
+                continue;
+            }
             let bytes = &mut self.bytes[list as usize];
             bytes.clear();
             if list == Goals {
@@ -224,6 +234,9 @@ impl Lists {
     }
 
     pub fn spoil(&mut self, damage: Damage, draw: &mut Draw) {
+        if damage.is_of_weights() && self.get(Weights).is_empty() {
+            self.set_floats(Weights, &weights::drawn(draw));
+        }
         match damage {
             Damage::Length(list, change) => {
                 let unit = if matches!(list, Sizes | Codes) { 2 } else { 8 };
@@ -313,9 +326,11 @@ pub enum Change {
     Empty,
     ByteLess,
     ByteMore,
+    TimesOver,
 }
 
 impl Change {
+    /// Those that every list has.
     const ALL: [Self; 5] = [
         Self::Short,
         Self::Long,
@@ -327,7 +342,7 @@ impl Change {
     fn kind(self) -> Kind {
         match self {
             Self::Short | Self::Empty => Kind::Short,
-            Self::Long => Kind::Long,
+            Self::Long | Self::TimesOver => Kind::Long,
             Self::ByteLess | Self::ByteMore => Kind::Ragged,
         }
     }
@@ -343,6 +358,7 @@ impl Change {
             Self::Empty => bytes.clear(),
             Self::ByteLess => bytes.truncate(length.saturating_sub(1)),
             Self::ByteMore => bytes.push(draw.word() as u8),
+            Self::TimesOver => *bytes = bytes.repeat(draw.pick(&[2, 3, 9, 32])),
         }
     }
 }
@@ -362,6 +378,12 @@ pub enum Damage {
     Value(List, f64),
     GoalPart(f64),
     GoalTurn(Edge),
+}
+
+impl Damage {
+    pub fn is_of_weights(self) -> bool {
+        matches!(self, Self::Length(Weights, _) | Self::Value(Weights, _))
+    }
 }
 
 /// Pairs of limits at the border: taken.
@@ -412,16 +434,16 @@ const SIDES: [(Kind, Edge); 2] = [(Kind::Border, Edge::JustIn), (Kind::Outside, 
 pub fn damages(read: &[List]) -> Vec<(Kind, Damage)> {
     let mut all = Vec::new();
     for &list in read {
-        all.extend(Change::ALL.map(|change| (change.kind(), Damage::Length(list, change))));
+        let kind = |change: Change| match (list, change) {
+            // None loaded: taken, but by the call that sets them.
+            (Weights, Change::Empty) if read.len() > 1 => Kind::Border,
+            _ => change.kind(),
+        };
+        all.extend(Change::ALL.map(|change| (kind(change), Damage::Length(list, change))));
     }
-    all.extend(UNLISTED.map(|code| (Kind::Codes, Damage::Code(code))));
-    all.push((Kind::Codes, Damage::Fixed));
-    all.extend([0, 1, 2, 3, 4, 5, 65535].map(|count| (Kind::Counts, Damage::Chains(count))));
-    all.extend([0, 1, 16, 17, 65535].map(|count| (Kind::Counts, Damage::Links(count))));
-    all.extend(values(10.0).map(|(kind, v)| (kind, Damage::Displacement(v))));
-    all.extend(SIDES.map(|(kind, edge)| (kind, Damage::Offset(edge))));
-    all.extend([f64::NAN, f64::INFINITY].map(|v| (Kind::Nan, Damage::OffsetPart(v))));
-    all.extend([1e-4, 1.1].map(|v| (Kind::Outside, Damage::OffsetPart(v))));
+    if read.contains(&Sizes) {
+        all.extend(arm_damages());
+    }
     if read.contains(&Limits) {
         all.extend(pair_damages());
     }
@@ -435,6 +457,23 @@ pub fn damages(read: &[List]) -> Vec<(Kind, Damage)> {
         all.extend(SIDES.map(|(kind, edge)| (kind, Damage::GoalTurn(edge))));
         all.push((Kind::Nan, Damage::Value(Goals, f64::NAN)));
     }
+    if read.contains(&Weights) {
+        all.extend(weights::damages());
+    }
+    all
+}
+
+/// Those to sizes, codes and floats.
+fn arm_damages() -> Vec<(Kind, Damage)> {
+    let mut all = Vec::new();
+    all.extend(UNLISTED.map(|code| (Kind::Codes, Damage::Code(code))));
+    all.push((Kind::Codes, Damage::Fixed));
+    all.extend([0, 1, 2, 3, 4, 5, 65535].map(|count| (Kind::Counts, Damage::Chains(count))));
+    all.extend([0, 1, 16, 17, 65535].map(|count| (Kind::Counts, Damage::Links(count))));
+    all.extend(values(10.0).map(|(kind, v)| (kind, Damage::Displacement(v))));
+    all.extend(SIDES.map(|(kind, edge)| (kind, Damage::Offset(edge))));
+    all.extend([f64::NAN, f64::INFINITY].map(|v| (Kind::Nan, Damage::OffsetPart(v))));
+    all.extend([1e-4, 1.1].map(|v| (Kind::Outside, Damage::OffsetPart(v))));
     all
 }
 
@@ -972,18 +1011,19 @@ mod tests {
     #[test]
     fn aimed_lists_are_taken() {
         let mut draw = Draw::new(2);
-        let mut kinds = [0; 3];
+        let (mut kinds, mut weighted) = ([0; 3], 0);
         for _ in 0..5_000 {
             let shape = shape(&mut draw);
             let mut lists = match draw.word() % 4 {
                 0 => Lists::still(&shape, &mut draw),
                 _ => Lists::of(&shape, &mut draw),
             };
-            lists.renew(&[Goals, History, Joints], &mut draw);
+            lists.renew(&[Goals, History, Weights, Joints], &mut draw);
             lists.aim(&mut draw);
             let (mut sizes, mut codes) = (Vec::new(), Vec::new());
             let (mut floats, mut limits) = (Vec::new(), Vec::new());
             let (mut goals, mut history, mut joints) = (Vec::new(), Vec::new(), Vec::new());
+            let mut weights = Vec::new();
             let given = refusals::Given {
                 sheet: Sheet {
                     sizes: u16s(lists.get(Sizes), &mut sizes),
@@ -993,10 +1033,12 @@ mod tests {
                 },
                 goals: f64s(lists.get(Goals), &mut goals),
                 history: f64s(lists.get(History), &mut history),
+                weights: f64s(lists.get(Weights), &mut weights),
             };
             let joints = f64s(lists.get(Joints), &mut joints);
             let value = refusals::Room::of(1);
             assert_eq!(refusals::objective(&given, joints, value), 0, "{shape:?}");
+            weighted += usize::from(!weights.is_empty());
             for &t in goals.chunks_exact(13).flat_map(|goal| &goal[7..]) {
                 #[allow(clippy::approx_constant)]
                 let kind = usize::from(t > 0.01) + usize::from(t >= 3.14159260);
@@ -1004,6 +1046,7 @@ mod tests {
             }
         }
         assert!(kinds.iter().all(|&met| met > 10_000), "{kinds:?}");
+        assert!((2_000..3_000).contains(&weighted), "{weighted}");
     }
 
     #[test]
@@ -1019,5 +1062,6 @@ mod tests {
         assert!(changed(Change::Empty, &mut draw).is_empty());
         assert_eq!(changed(Change::ByteLess, &mut draw), [1, 2, 3]);
         assert_eq!(changed(Change::ByteMore, &mut draw)[..4], [1, 2, 3, 4]);
+        assert!(changed(Change::TimesOver, &mut draw).len() >= 8);
     }
 }

@@ -24,10 +24,23 @@ pub const WRITTEN: Kinds = &[
 /// For a call without outputs: all but the last.
 pub const READ: Kinds = WRITTEN.split_at(WRITTEN.len() - 1).0;
 
+/// For a call that reads a list of weights and nothing else.
+pub const WEIGHTS: Kinds = &[
+    (Kind::Border, 6),
+    (Kind::Valid, 40),
+    (Kind::Short, 4),
+    (Kind::Long, 3),
+    (Kind::Ragged, 4),
+    (Kind::Outside, 6),
+    (Kind::Nan, 3),
+    (Kind::Several, 8),
+];
+
 pub fn kinds(call: Call) -> Kinds {
-    match call.needs(&Lists::default()).is_empty() {
-        true => READ,
-        false => WRITTEN,
+    match call {
+        Call::SetWeights => WEIGHTS,
+        _ if call.needs(&Lists::default()).is_empty() => READ,
+        _ => WRITTEN,
     }
 }
 
@@ -48,7 +61,8 @@ pub fn kind(call: Call, draw: &mut Draw) -> Kind {
 pub struct Source {
     call: Call,
     kind: Kind,
-    /// Of the kind, or all of them for several at once.
+    /// Of the kind, or all of them for several at once; beside outputs those to
+    /// weights, whose number comes after that of the outputs.
     damages: Vec<Damage>,
     base: Lists,
     left: usize,
@@ -58,7 +72,11 @@ pub struct Source {
 impl Source {
     pub fn new(call: Call, kind: Kind) -> Self {
         let mut damages = damages(call.read());
-        damages.retain(|(of, _)| kind == Kind::Several || *of == kind);
+        damages.retain(|(of, damage)| match kind {
+            Kind::Several => true,
+            Kind::Outputs => damage.is_of_weights(),
+            _ => *of == kind,
+        });
         Self {
             call,
             kind,
@@ -86,8 +104,11 @@ impl Source {
     }
 
     /// A sheet, and how many cases it serves for. Sizing looks at nothing else, so
-    /// each of its cases has a sheet of its own.
+    /// each of its cases has a sheet of its own; setting weights has none.
     fn sheet(&self, draw: &mut Draw) -> (Lists, usize) {
+        if self.call == Call::SetWeights {
+            return (Lists::default(), 1);
+        }
         let (lists, cases) = match (self.kind, draw.word() % 8) {
             (Kind::Shape, _) | (Kind::Several, 0) => (Lists::of(&refused_shape(draw), draw), 4),
             (Kind::Signs, _) | (Kind::Several, 1) => (Lists::still(&shape(draw), draw), 8),
@@ -102,7 +123,9 @@ impl Source {
     fn faults(&self, draw: &mut Draw) -> usize {
         match self.kind {
             Kind::Several => draw.pick(&[2, 3]),
-            _ => usize::from(!self.damages.is_empty()),
+            _ if self.damages.is_empty() => 0,
+            Kind::Outputs => draw.pick(&[0, 0, 0, 1]),
+            _ => 1,
         }
     }
 
@@ -181,11 +204,15 @@ mod tests {
     #[test]
     fn every_number_is_drawn() {
         for call in Call::ALL {
-            let mut possible = vec![1, 2, 3, 4, 6];
+            let mut possible = match call.read().contains(&List::Sizes) {
+                true => vec![1, 2, 3, 4, 6],
+                false => vec![],
+            };
             possible.extend(call.read().contains(&List::Limits).then_some(5));
             possible.extend(call.own().contains(&List::Joints).then_some(7));
             possible.extend(call.own().contains(&List::Goals).then_some(8));
             possible.extend((kinds(call).len() > READ.len()).then_some(9));
+            possible.extend(call.own().contains(&List::Weights).then_some(10));
             // Slopes take their time.
             let cases = if call.aims() { 4_000 } else { 20_000 };
             let (answers, _) = drawn(call, cases);

@@ -30,7 +30,9 @@ pub const CONSTANT: Pace = pace(1, 0, 1);
 pub const LEAF: Pace = pace(1, 10, 2_000_000);
 pub const ARMS: Pace = pace(1, 85, 400_000);
 /// The reference makes every frame, objective and entry that it counts.
-pub const SIZING: Pace = pace(1, 35, 100_000);
+pub const SIZING: Pace = pace(1, 30, 100_000);
+/// Eight numbers are soon looked at.
+pub const SETTING: Pace = pace(1, 5, 1_000_000);
 #[cfg(feature = "objective")]
 pub const OBJECTIVE: Pace = pace(20, 80, 100_000);
 #[cfg(feature = "objective")]

@@ -296,6 +296,7 @@ mod tests {
             List::Limits => put_floats(&lists.limits, &mut bytes),
             List::Goals => put_floats(&lists.goals, &mut bytes),
             List::History => put_floats(&lists.history, &mut bytes),
+            List::Weights => put_floats(&lists.weights, &mut bytes),
             List::Joints => put_floats(&lists.joints, &mut bytes),
         }
         bytes
@@ -346,6 +347,7 @@ mod tests {
         for (call, figure) in [
             (Call::Load, None),
             (Call::Sizing, None),
+            (Call::SetWeights, None),
             (Call::Pose, Some("c0.x")),
             (Call::Manipulability, Some("manipulability")),
             (Call::Objective, Some("objective")),

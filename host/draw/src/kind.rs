@@ -75,7 +75,11 @@ pub const KINDS: [(Kind, &str, &str); 17] = [
         "nan",
         "a NaN or an infinity among numbers in range",
     ),
-    (Kind::Outputs, "outputs", "an output of a wrong length"),
+    (
+        Kind::Outputs,
+        "outputs",
+        "an output of a wrong length, at times with wrong weights",
+    ),
     (
         Kind::Several,
         "several",

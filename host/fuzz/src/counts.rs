@@ -4,7 +4,8 @@ use compare::calls::Call;
 use std::fmt;
 use std::time::{Duration, Instant};
 
-const NUMBERS: usize = 10;
+/// 0, and the refusals.
+const NUMBERS: usize = 11;
 /// A progress line comes this often.
 const PAUSE: Duration = Duration::from_secs(10);
 
@@ -51,11 +52,9 @@ impl Counts {
 impl fmt::Display for Counts {
     fn fmt(&self, f: &mut fmt::Formatter) -> fmt::Result {
         writeln!(f, "{}\n", self.so_far())?;
-        writeln!(
-            f,
-            "| call | executions | taken, % | 0 | 1 | 2 | 3 | 4 | 5 | 6 | 7 | 8 | 9 |"
-        )?;
-        writeln!(f, "|---|---|---|---|---|---|---|---|---|---|---|---|---|")?;
+        let numbers: Vec<String> = (0..NUMBERS).map(|number| format!(" {number} |")).collect();
+        writeln!(f, "| call | executions | taken, % |{}", numbers.concat())?;
+        writeln!(f, "|---|---|---|{}", "---|".repeat(NUMBERS))?;
         for (call, counts) in Call::ALL.iter().zip(&self.of) {
             let sum: u64 = counts.iter().sum();
             let share = 100.0 * counts[0] as f64 / sum.max(1) as f64;
@@ -85,7 +84,8 @@ mod tests {
         counts.add(Call::Load, 1);
         let text = counts.to_string();
         assert!(text.starts_with("5 executions in "));
-        assert!(text.contains("| pose | 4 | 75 | 3 | | | | | | | | | 1 |"));
-        assert!(text.contains("| load | 1 | 0 | | 1 | | | | | | | | |"));
+        assert!(text.contains("| pose | 4 | 75 | 3 | | | | | | | | | 1 | |"));
+        assert!(text.contains("| load | 1 | 0 | | 1 | | | | | | | | | |"));
+        assert!(text.contains("| 8 | 9 | 10 |\n|---|---|"));
     }
 }

@@ -7,6 +7,7 @@ use compare::calls::Call;
 use compare::sheets::{List, Lists, Shape, CODES};
 use reference::refusals::{f64s, u16s};
 use reference::sheet::{GOAL_FLOATS, LINK_FLOATS};
+use reference::weights::WEIGHTS;
 use relaxed_ik::bytes::{put_floats, put_u16s};
 
 const MOST_CHAINS: usize = 4;
@@ -18,7 +19,28 @@ const LEAST_JOINTS: usize = 2;
 const LINK: [f64; LINK_FLOATS] = [0.0, 0.0, 1.0, 1.0, 0.0, 0.0, 0.0];
 
 pub fn mend(input: &mut Input) {
-    let lists = &mut input.lists;
+    if input.call.read().contains(&List::Weights) {
+        mend_weights(input);
+    }
+    if input.call != Call::SetWeights {
+        mend_arms(&mut input.lists);
+    }
+    make_room(input);
+}
+
+/// Where a call works with weights, no byte is a list too.
+fn mend_weights(input: &mut Input) {
+    let none = input.lists.get(List::Weights).is_empty();
+    if input.call == Call::SetWeights || !none {
+        let lists = &mut input.lists;
+        set_groups(lists, List::Weights, WEIGHTS, &[0.5], |weight| {
+            clamp(weight, 0.0, 1000.0)
+        });
+    }
+}
+
+/// The sheet, and what else a call on arms may read.
+fn mend_arms(lists: &mut Lists) {
     let shape = mended_shape(shape(lists));
     set_shape(lists, &shape);
     set_groups(lists, List::Floats, lists.links, &LINK, mend_link);
@@ -28,12 +50,11 @@ pub fn mend(input: &mut Input) {
     set_groups(lists, List::Goals, lists.chains, &goal, mend_goal);
     let joints = lists.joints;
     set_groups(lists, List::History, 4 * joints, &[0.0], |joint| {
-        clamp(joint, 8.0)
+        clamp(joint, -8.0, 8.0)
     });
     set_groups(lists, List::Joints, joints, &[0.0], |joint| {
-        clamp(joint, 8.0)
+        clamp(joint, -8.0, 8.0)
     });
-    make_room(input);
 }
 
 /// The codes of each chain, as far as sizes and codes tell.
@@ -123,26 +144,26 @@ fn set_groups<const N: usize>(
     lists.set(list, &bytes);
 }
 
-/// Into the range of that size; a NaN becomes 0.
-fn clamp(values: &mut [f64], size: f64) {
+/// Into the range, which has 0; a NaN becomes 0.
+fn clamp(values: &mut [f64], low: f64, high: f64) {
     for value in values {
         *value = if value.is_nan() {
             0.0
         } else {
-            value.clamp(-size, size)
+            value.clamp(low, high)
         };
     }
 }
 
 fn mend_link(link: &mut [f64]) {
-    clamp(&mut link[..3], 10.0);
+    clamp(&mut link[..3], -10.0, 10.0);
     mend_turn(&mut link[3..]);
 }
 
 fn mend_goal(goal: &mut [f64]) {
-    clamp(&mut goal[..3], 100.0);
+    clamp(&mut goal[..3], -100.0, 100.0);
     mend_turn(&mut goal[3..7]);
-    clamp(&mut goal[7..], 100.0);
+    clamp(&mut goal[7..], -100.0, 100.0);
 }
 
 fn is_turn(q: &[f64]) -> bool {
@@ -162,7 +183,7 @@ fn mend_turn(q: &mut [f64]) {
 
 fn mend_pair(pair: &mut [f64]) {
     if *pair != [-999.0, 999.0] {
-        clamp(pair, 100.0);
+        clamp(pair, -100.0, 100.0);
         if pair[1] - pair[0] < 0.001 {
             pair.copy_from_slice(&[-3.0, 3.0]);
         }

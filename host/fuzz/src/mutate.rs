@@ -6,7 +6,7 @@ use crate::input::{Input, MOST};
 use crate::mend::mend;
 use compare::calls::Call;
 use compare::draw::Draw;
-use compare::sheets::{damages, Fit, Lists};
+use compare::sheets::{damages, Fit, List, Lists};
 use compare::source::{kind, Source};
 
 /// A case as `compare` draws it: more than half are taken.
@@ -87,7 +87,9 @@ fn bytes(input: &mut Input, draw: &mut Draw, keep: bool, plain: &mut impl FnMut(
 
 /// One float becomes a neighbour, its negative, an edge, or any.
 fn float(input: &mut Input, draw: &mut Draw) {
-    let list = draw.pick(&input.call.read()[2..]);
+    let mut lists = input.call.read().to_vec();
+    lists.retain(|list| !matches!(list, List::Sizes | List::Codes));
+    let list = draw.pick(&lists);
     let mut bytes = input.lists.get(list).to_vec();
     let count = bytes.len() / 8;
     if count == 0 {
@@ -101,6 +103,7 @@ fn float(input: &mut Input, draw: &mut Draw) {
         2 => -old,
         3 => draw.edge(),
         4 => draw.any(),
+        _ if list == List::Weights => draw.between(0.0, 1000.0),
         _ => draw.between(-8.0, 8.0),
     };
     bytes[at..at + 8].copy_from_slice(&new.to_le_bytes());

@@ -1,10 +1,12 @@
 //! Ours, no part of the published files: the refusals 1 to 9 of document 01's
-//! section 'From the input', written from the paper, apart from the proved
-//! code. Each public call below answers 0 or the lowest number that applies.
+//! section 'From the input' and 10 of document 02's change 2, written from the
+//! papers, apart from the proved code. Each public call below answers 0 or the
+//! lowest number that applies.
 //! The state numbers 20 to 22 are no concern here: a byte call keeps no state.
 
 use crate::sheet::{END_FLOATS, GOAL_FLOATS, LINK_FLOATS};
 use crate::sizing::PLAN;
+use crate::weights::WEIGHTS;
 
 /// The answer of a call that is not refused.
 pub const ACCEPTED: u32 = 0;
@@ -29,6 +31,11 @@ impl<'a, T> List<'a, T> {
 
     fn has(&self, count: usize) -> bool {
         !self.ragged && self.numbers.len() == count
+    }
+
+    /// Not a byte: a part of a number is one that is lent.
+    fn is_none(&self) -> bool {
+        self.has(0)
     }
 }
 
@@ -144,6 +151,8 @@ pub struct Given<'a> {
     pub sheet: Sheet<'a>,
     pub goals: List<'a, f64>,
     pub history: List<'a, f64>,
+    /// Empty for none loaded.
+    pub weights: List<'a, f64>,
 }
 
 /// The three lists of the one-block call's record.
@@ -234,6 +243,11 @@ fn wrong_goals(goals: List<f64>, chains: usize) -> bool {
     !goals.has(GOAL_FLOATS * chains) || goals.numbers.chunks_exact(GOAL_FLOATS).any(wrong)
 }
 
+/// 10.
+fn wrong_weights(weights: List<f64>) -> bool {
+    !weights.has(WEIGHTS) || !weights.numbers.iter().all(|&v| within(v, 0.0, 1000.0))
+}
+
 /// 1 to 4, which sizes, codes and the lengths of their lists decide.
 fn shape(sheet: &Sheet) -> u32 {
     if wrong_sizes(sheet.sizes) {
@@ -270,6 +284,14 @@ pub fn set_goals(sheet: &Sheet, goals: List<f64>) -> u32 {
     match load(sheet) {
         ACCEPTED if wrong_goals(goals, sheet.chains()) => 8,
         answer => answer,
+    }
+}
+
+/// Looks at the list alone, and takes no list for none.
+pub fn set_weights(weights: List<f64>) -> u32 {
+    match wrong_weights(weights) {
+        true => 10,
+        false => ACCEPTED,
     }
 }
 
@@ -313,8 +335,9 @@ pub fn update(sheet: &Sheet, history: List<f64>, joints: List<f64>, renewed: Roo
     }
 }
 
-/// A call on goals, history and a block of joints, in the order of the
-/// numbers: 7 comes before 8, though the goals are lent first.
+/// A call on goals, history, weights and a block of joints, in the order of the
+/// numbers: 7 comes before 8, though the goals are lent first, and the outputs
+/// come before the weights.
 fn on_goals(given: &Given, joints: List<f64>, fits: impl FnOnce() -> bool) -> u32 {
     let sheet = &given.sheet;
     match load(sheet) {
@@ -326,6 +349,7 @@ fn on_goals(given: &Given, joints: List<f64>, fits: impl FnOnce() -> bool) -> u3
         }
         ACCEPTED if wrong_goals(given.goals, sheet.chains()) => 8,
         ACCEPTED if !fits() => 9,
+        ACCEPTED if !given.weights.is_none() => set_weights(given.weights),
         answer => answer,
     }
 }

@@ -2,11 +2,11 @@
 //! the proved library refuses it.
 
 use nalgebra::{Quaternion, UnitQuaternion, Vector3};
-use reference::groove::objective_master::ObjectiveMaster;
 use reference::groove::vars::RelaxedIKVars;
 use reference::sheet;
 use reference::spacetime::arm::Arm;
 use reference::spacetime::robot::Robot;
+use reference::weights;
 use relaxed_ik::{Given, Sheet};
 use std::panic;
 
@@ -20,6 +20,7 @@ struct Lists {
     goals: Vec<f64>,
     blocks: [Vec<f64>; 4],
     joints: Vec<f64>,
+    weights: Vec<f64>,
 }
 
 const LINK: [f64; 7] = [0.0, 0.0, 1.0, 1.0, 0.0, 0.0, 0.0];
@@ -40,6 +41,7 @@ fn arms(chains: &[u16]) -> Lists {
         goals: goal.repeat(chains.len()),
         blocks: std::array::from_fn(|_| vec![0.0; links]),
         joints: vec![0.0; links],
+        weights: Vec::new(),
     }
 }
 
@@ -105,7 +107,7 @@ fn published(lists: &Lists) -> Option<f64> {
     let lists = lists.clone();
     let run = move || {
         let vars = vars(&lists);
-        ObjectiveMaster::relaxed_ik(&vars.robot.chain_lengths).call(&lists.joints, &vars)
+        weights::master(&vars.robot.chain_lengths, &lists.weights).call(&lists.joints, &vars)
     };
     panic::catch_unwind(run).ok()
 }
@@ -122,6 +124,7 @@ fn proved(lists: &Lists) -> Result<f64, u32> {
         sheet,
         goals: &lists.goals,
         history: &lists.blocks.concat(),
+        weights: &lists.weights,
     };
     given
         .objective(&lists.joints)
@@ -237,6 +240,21 @@ fn goals() {
     goes_on(8, &with(|l| l.goals[7] = 101.0), PLAIN);
     goes_on(8, &with(|l| l.goals[7] = f64::NAN), f64::NAN);
     goes_on(8, &with(|l| l.goals[3] = 2.0), PLAIN);
+}
+
+/// The built-in weights, that of the positions changed.
+fn weighing(position: f64) -> Lists {
+    with(|l| {
+        l.weights = weights::built_in().to_vec();
+        l.weights[0] = position;
+    })
+}
+
+#[test]
+fn own_weights() {
+    goes_on(10, &weighing(-1.0), -28.735335283236623);
+    goes_on(10, &weighing(1000.5), -3033.2353352832365);
+    goes_on(10, &weighing(f64::NAN), f64::NAN);
 }
 
 /// The published reset keeps its joints apart, and they outlast every update.

@@ -283,6 +283,7 @@ fn given<'a>(lists: &'a Lists, goals: &'a [f64], history: &'a [f64]) -> Given<'a
         sheet: lists.sheet(),
         goals: List::of(goals),
         history: List::of(history),
+        weights: List::of(&[]),
     }
 }
 
@@ -364,7 +365,25 @@ fn a_record_fits_its_room() {
     }
 }
 
-/// Joints or history before goals, goals before outputs, the sheet before all.
+/// What the calls on goals answer, all with outputs of so much room.
+fn all_on_goals(given: &Given, joints: &[f64], room: usize) -> u32 {
+    let (joints, room) = (List::of(joints), Room::of(room));
+    let record = RecordRoom {
+        joints: room,
+        links: room,
+        poses: room,
+    };
+    let answer = objective(given, joints, room);
+    assert_eq!(answer, gradient(given, joints, room, room, room));
+    assert_eq!(
+        answer,
+        gradient_one_block(given, joints, room, room, record)
+    );
+    answer
+}
+
+/// Joints or history before goals, goals before outputs, the sheet before all;
+/// weights come last.
 #[test]
 fn the_lowest_number_wins_for_slopes() {
     let mut lists = chains(&[&[13, 12], &[13, 12]]);
@@ -373,15 +392,10 @@ fn the_lowest_number_wins_for_slopes() {
     let mut far = history;
     far[15] = 8.0f64.next_up();
     let all = |lists: &Lists, goals: &[f64], history: &[f64], joints: &[f64]| {
-        let (given, joints) = (given(lists, goals, history), List::of(joints));
-        let none = Room::of(0);
-        let answer = objective(&given, joints, none);
-        assert_eq!(answer, gradient(&given, joints, none, none, none));
-        let record = record_room(0, 0, 0);
-        assert_eq!(
-            answer,
-            gradient_one_block(&given, joints, none, none, record)
-        );
+        let mut given = given(lists, goals, history);
+        let answer = all_on_goals(&given, joints, 0);
+        given.weights = List::of(&[0.5; 9]);
+        assert_eq!(all_on_goals(&given, joints, 0), answer);
         answer
     };
     let (no_goals, no_joints) = ([1.0; 26], [f64::NAN; 4]);
@@ -395,4 +409,61 @@ fn the_lowest_number_wins_for_slopes() {
     assert_eq!(all(&lists, &no_goals, &history, &joints), 8);
     assert_eq!(all(&lists, &goals[1..], &history, &joints), 8);
     assert_eq!(all(&lists, &goals, &history, &joints), 9);
+}
+
+/// What sets weights answers, and what a call that is lent them does.
+fn with_weights(weights: List<f64>) -> [u32; 2] {
+    let lists = chains(&[&[0, 13, 12, 0]]);
+    let (goals, history) = (taken_goals(1), [0.5; 8]);
+    let given = Given {
+        weights,
+        ..given(&lists, &goals, &history)
+    };
+    [
+        set_weights(weights),
+        all_on_goals(&given, &lists.joints, 63),
+    ]
+}
+
+#[test]
+fn weights_are_within_0_and_1000() {
+    for at in 0..8 {
+        for (value, answer) in [
+            (0.0, 0),
+            (-0.0, 0),
+            (5e-324, 0),
+            (1000.0f64.next_down(), 0),
+            (1000.0, 0),
+            (1000.0f64.next_up(), 10),
+            (-5e-324, 10),
+            (-1e-300, 10),
+            (f64::INFINITY, 10),
+            (f64::NEG_INFINITY, 10),
+            (f64::NAN, 10),
+            (-f64::NAN, 10),
+        ] {
+            let mut weights = [0.5; 8];
+            weights[at] = value;
+            let answers = with_weights(List::of(&weights));
+            assert_eq!(answers, [answer; 2], "{value:e} at {at}");
+        }
+    }
+}
+
+/// A call that uses weights takes no list for none loaded; to set none is
+/// refused.
+#[test]
+fn weights_are_eight_or_none() {
+    for count in 0..=40 {
+        let weights = vec![0.5; count];
+        let expected = match count {
+            0 => [10, 0],
+            8 => [0, 0],
+            _ => [10, 10],
+        };
+        assert_eq!(with_weights(List::of(&weights)), expected, "{count}");
+        let mut ragged = List::of(&weights[..]);
+        ragged.ragged = true;
+        assert_eq!(with_weights(ragged), [10, 10], "{count} and a part of one");
+    }
 }

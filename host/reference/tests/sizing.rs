@@ -33,6 +33,7 @@ impl Lists {
             sheet: self.sheet(),
             goals: List::of(&goals),
             history: List::of(&history),
+            weights: List::of(&[]),
         };
         let record = RecordRoom {
             joints: Room::of(entries),

@@ -120,6 +120,7 @@ mod c {
             new_history: *mut u8,
             new_history_length: usize,
         ) -> u32;
+        pub fn relaxed_ik_set_weights(weights: *const u8, weights_length: usize) -> u32;
         pub fn relaxed_ik_objective(
             sizes: *const u8,
             sizes_length: usize,
@@ -133,6 +134,8 @@ mod c {
             goals_length: usize,
             history: *const u8,
             history_length: usize,
+            weights: *const u8,
+            weights_length: usize,
             joints: *const u8,
             joints_length: usize,
             value: *mut u8,
@@ -151,6 +154,8 @@ mod c {
             goals_length: usize,
             history: *const u8,
             history_length: usize,
+            weights: *const u8,
+            weights_length: usize,
             joints: *const u8,
             joints_length: usize,
             scratch: *mut u8,
@@ -173,6 +178,8 @@ mod c {
             goals_length: usize,
             history: *const u8,
             history_length: usize,
+            weights: *const u8,
+            weights_length: usize,
             joints: *const u8,
             joints_length: usize,
             scratch: *mut u8,
@@ -195,6 +202,8 @@ mod c {
             goals_length: usize,
             history: *const u8,
             history_length: usize,
+            weights: *const u8,
+            weights_length: usize,
             joints: *const u8,
             joints_length: usize,
             value: *mut u8,
@@ -499,6 +508,12 @@ pub fn update(sheet: Sheet, history: &[u8], joints: &[u8], new_history: &mut [u8
     call!(relaxed_ik_update, sheet, read history, read joints, write new_history)
 }
 
+/// Eight floats: position, rotation, limits, velocity, acceleration, jerk,
+/// manipulability, pairs. Here a list of no byte is refused too.
+pub fn set_weights(weights: &[u8]) -> u32 {
+    unsafe { c::relaxed_ik_set_weights(weights.as_ptr(), weights.len()) }
+}
+
 /// What the objective and its slopes are lent first.
 #[cfg(feature = "objective")]
 #[derive(Clone, Copy, Debug)]
@@ -506,6 +521,8 @@ pub struct Given<'a> {
     pub sheet: Sheet<'a>,
     pub goals: &'a [u8],
     pub history: &'a [u8],
+    /// No byte for the built-in ones.
+    pub weights: &'a [u8],
 }
 
 /// The three lists of the one-block call's record, an entry for each walked
@@ -522,7 +539,11 @@ pub struct Record<'a> {
 /// One float.
 #[cfg(feature = "objective")]
 pub fn objective(given: Given, joints: &[u8], value: &mut [u8]) -> u32 {
-    call!(relaxed_ik_objective, given.sheet, read given.goals, read given.history, read joints, write value)
+    call!(
+        relaxed_ik_objective, given.sheet,
+        read given.goals, read given.history, read given.weights, read joints,
+        write value
+    )
 }
 
 /// By steps of 1e-7. The scratch list, a float a joint, ends equal to the
@@ -537,7 +558,7 @@ pub fn gradient(
 ) -> u32 {
     call!(
         relaxed_ik_gradient, given.sheet,
-        read given.goals, read given.history, read joints,
+        read given.goals, read given.history, read given.weights, read joints,
         write scratch, write value, write slopes
     )
 }
@@ -553,7 +574,7 @@ pub fn gradient_finite_diff(
 ) -> u32 {
     call!(
         relaxed_ik_gradient_finite_diff, given.sheet,
-        read given.goals, read given.history, read joints,
+        read given.goals, read given.history, read given.weights, read joints,
         write scratch, write value, write slopes
     )
 }
@@ -569,7 +590,7 @@ pub fn gradient_one_block(
 ) -> u32 {
     call!(
         relaxed_ik_gradient_one_block, given.sheet,
-        read given.goals, read given.history, read joints,
+        read given.goals, read given.history, read given.weights, read joints,
         write value, write slopes,
         write record.joints, write record.links, write record.poses
     )

@@ -1,10 +1,11 @@
 //! The proved library for Rust programs: slices of numbers in, structs and
 //! [`Refusal`]s out. All unsafe code is in [`bytes`].
 //!
-//! The calls keep no state. A [`Sheet`] is lent to each of them, with goals and
-//! history where they are used; they answer from these alone. So nothing has to
-//! be loaded before: each call looks at everything it is lent, and [`Sheet::load`]
-//! does only that. How long the frame lists and the record are, [`Plan`] says.
+//! The calls keep no state. A [`Sheet`] is lent to each of them, with goals,
+//! history and weights where they are used; they answer from these alone. So
+//! nothing has to be loaded before: each call looks at everything it is lent, and
+//! [`Sheet::load`], [`Sheet::set_goals`] and [`set_weights`] do only that. How long
+//! the frame lists and the record are, [`Plan`] says.
 //!
 //! Lists that are written are lent as `&mut`, so they cannot share a byte with
 //! another list of the call:
@@ -52,11 +53,13 @@ pub mod leaves;
 mod objective;
 mod plan;
 mod refusal;
+mod weights;
 
 #[cfg(feature = "objective")]
 pub use objective::{Given, Record, RecordLists, Slopes, Walk, NONE_RAISED};
 pub use plan::Plan;
 pub use refusal::Refusal;
+pub use weights::{set_weights, WEIGHTS};
 
 use bytes::{of_floats, of_floats_mut, of_u16s};
 use refusal::taken;

@@ -7,12 +7,14 @@ use crate::{Pose, Refusal, Sheet};
 /// In a record, the joint of the first walk.
 pub const NONE_RAISED: u16 = 65535;
 
-/// The sheet, 13 floats of goal a chain, and a history of four blocks.
+/// The sheet, 13 floats of goal a chain, a history of four blocks, and weights.
 #[derive(Clone, Copy, Debug)]
 pub struct Given<'a> {
     pub sheet: Sheet<'a>,
     pub goals: &'a [f64],
     pub history: &'a [f64],
+    /// In the order of [`WEIGHTS`](crate::WEIGHTS); empty for the built-in ones.
+    pub weights: &'a [f64],
 }
 
 /// The objective's value and its slope for each joint.
@@ -53,6 +55,7 @@ impl Given<'_> {
             sheet: self.sheet.lent(),
             goals: of_floats(self.goals),
             history: of_floats(self.history),
+            weights: of_floats(self.weights),
         }
     }
 

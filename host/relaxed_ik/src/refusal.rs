@@ -17,11 +17,12 @@ pub enum Refusal {
     Joints = 7,
     Goals = 8,
     Room = 9,
+    Weights = 10,
 }
 
 impl Refusal {
     /// In the order of their numbers.
-    pub const ALL: [Self; 9] = [
+    pub const ALL: [Self; 10] = [
         Self::Sizes,
         Self::Lengths,
         Self::Code,
@@ -31,6 +32,7 @@ impl Refusal {
         Self::Joints,
         Self::Goals,
         Self::Room,
+        Self::Weights,
     ];
 
     /// The number that a call answers.
@@ -55,6 +57,7 @@ impl Refusal {
             Self::Joints => "a value within -8..8 for each joint, in the joints and in each block of the history",
             Self::Goals => "13 floats a chain: position and tolerances within -100..100, a rotation whose squares' sum is within 0.999999999..1.000000001",
             Self::Room => "lists to be written as long as what goes into them",
+            Self::Weights => "eight weights within 0..1000",
         }
     }
 }

@@ -139,14 +139,14 @@ fn a_pose_rotates_as_the_frames_do() {
 
 #[test]
 fn refusals_have_words_for_every_number() {
-    for number in 1..=9 {
+    for number in 1..=10 {
         let refusal = Refusal::of_number(number).unwrap();
         assert_eq!(refusal.number(), number);
         assert!(!refusal.words().is_empty());
         let text = refusal.to_string();
         assert!(text.starts_with(&format!("refused, {number}: ")), "{text}");
     }
-    for number in [0, 10, 20, 21, 22, u32::MAX] {
+    for number in [0, 11, 20, 21, 22, u32::MAX] {
         assert_eq!(Refusal::of_number(number), None);
     }
 }

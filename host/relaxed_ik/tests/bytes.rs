@@ -1,8 +1,9 @@
 //! What the calls answer and write, on lists of bytes written by hand.
 
-use relaxed_ik::bytes::{self, of_floats, of_u16s, Sheet};
+mod lists;
 
-const UP: [f64; 7] = [0.0, 0.0, 1.0, 1.0, 0.0, 0.0, 0.0];
+use lists::UP;
+use relaxed_ik::bytes::{self, of_floats, of_u16s, Sheet};
 
 fn floats(numbers: &[f64]) -> Vec<u8> {
     of_floats(numbers).to_vec()
@@ -128,22 +129,29 @@ fn a_ragged_sheet_has_no_plan() {
     }
 }
 
+/// Ragged, too short, too long, or no byte at all.
+#[test]
+fn weights_are_64_bytes() {
+    let bytes = floats(&[1.0; 12]);
+    for length in 0..=bytes.len() {
+        let answer = if length == 64 { 0 } else { 10 };
+        assert_eq!(bytes::set_weights(&bytes[..length]), answer, "{length}");
+    }
+}
+
 #[cfg(feature = "objective")]
 mod objective {
+    use super::lists::{BUILT_IN, GOAL};
     use super::{chain, floats, u16s, Lists};
     use relaxed_ik::bytes::{gradient, gradient_finite_diff, gradient_one_block, objective};
     use relaxed_ik::bytes::{Given, Record};
-
-    /// A goal within reach, with a tolerance of each kind.
-    const GOAL: [f64; 13] = [
-        0.3, -0.2, 1.5, 1.0, 0.0, 0.0, 0.0, 0.0, 0.1, 0.0, 0.0, 0.5, 3.2,
-    ];
 
     /// A chain at rest at its joints.
     struct Aimed {
         lists: Lists,
         goals: Vec<u8>,
         history: Vec<u8>,
+        weights: Vec<u8>,
         joints: Vec<u8>,
     }
 
@@ -152,6 +160,7 @@ mod objective {
             lists: chain(codes),
             goals: floats(&GOAL),
             history: floats(&joints.repeat(4)),
+            weights: Vec::new(),
             joints: floats(joints),
         }
     }
@@ -162,6 +171,7 @@ mod objective {
                 sheet: self.lists.sheet(),
                 goals: &self.goals,
                 history: &self.history,
+                weights: &self.weights,
             }
         }
     }
@@ -220,12 +230,13 @@ mod objective {
         assert_eq!(poses[8 * 63..], floats(&[9.0]));
     }
 
-    /// 7 before 8 before 9, and nothing written.
+    /// 7 before 8 before 9 before 10, and nothing written.
     #[test]
     fn a_refused_call_writes_nothing() {
         let mut lists = aimed(&[13, 12], &[0.5, 0.5]);
         let good = lists.goals.clone();
         lists.goals.pop();
+        lists.weights = floats(&[1000.5; 8]);
         lists.joints = floats(&[0.5, 8.0f64.next_up()]);
         let mut value = vec![1, 2, 3];
         let answer = objective(lists.given(), &lists.joints, &mut value);
@@ -236,5 +247,42 @@ mod objective {
         lists.goals = good;
         let answer = objective(lists.given(), &lists.joints, &mut value);
         assert_eq!((answer, value), (9, vec![1, 2, 3]));
+        let mut value = floats(&[7.0]);
+        let answer = objective(lists.given(), &lists.joints, &mut value);
+        assert_eq!((answer, value), (10, floats(&[7.0])));
+    }
+
+    /// What each call on weights answers, with room for all that it writes. Only a
+    /// call that was taken has written.
+    fn answers(lists: &Aimed) -> [u32; 4] {
+        let (given, joints) = (lists.given(), &lists.joints[..]);
+        let mut value = floats(&[7.0]);
+        let mut slopes = floats(&[7.0; 2]);
+        let mut found = [objective(given, joints, &mut value), 0, 0, 0];
+        for (at, call) in [gradient, gradient_finite_diff].into_iter().enumerate() {
+            let mut scratch = floats(&[7.0; 2]);
+            found[1 + at] = call(given, joints, &mut scratch, &mut value, &mut slopes);
+        }
+        let record = Record {
+            joints: &mut u16s(&[7; 5]),
+            links: &mut u16s(&[7; 5]),
+            poses: &mut floats(&[7.0; 35]),
+        };
+        found[3] = gradient_one_block(given, joints, &mut value, &mut slopes, record);
+        let kept = value == floats(&[7.0]) && slopes == floats(&[7.0; 2]);
+        assert_eq!(kept, found != [0; 4]);
+        found
+    }
+
+    /// A list of some bytes that is not of eight floats is wrong, and not none.
+    #[test]
+    fn only_an_empty_list_of_weights_is_none() {
+        let mut lists = aimed(&[13, 12], &[0.5, 0.5]);
+        let bytes = floats(&[BUILT_IN, BUILT_IN].concat());
+        for length in 0..=bytes.len() {
+            lists.weights = bytes[..length].to_vec();
+            let answer = if [0, 64].contains(&length) { 0 } else { 10 };
+            assert_eq!(answers(&lists), [answer; 4], "{length} bytes");
+        }
     }
 }

@@ -1,13 +1,10 @@
 //! The objective and its slopes, on sheets written by hand.
 #![cfg(feature = "objective")]
 
-use relaxed_ik::{bytes, Given, RecordLists, Refusal, Sheet};
+mod lists;
 
-const UP: [f64; 7] = [0.0, 0.0, 1.0, 1.0, 0.0, 0.0, 0.0];
-/// A goal within reach, with a tolerance of each kind.
-const GOAL: [f64; 13] = [
-    0.3, -0.2, 1.5, 1.0, 0.0, 0.0, 0.0, 0.0, 0.1, 0.0, 0.0, 0.5, 3.2,
-];
+use lists::{GOAL, UP};
+use relaxed_ik::{bytes, Given, RecordLists, Refusal, Sheet};
 
 /// Links up 1, at rest at the joints, handed to `test`.
 fn with(codes: &[u16], joints: &[f64], test: impl FnOnce(Given)) {
@@ -21,6 +18,7 @@ fn with(codes: &[u16], joints: &[f64], test: impl FnOnce(Given)) {
         sheet,
         goals: &GOAL,
         history: &joints.repeat(4),
+        weights: &[],
     });
 }
 
@@ -117,6 +115,7 @@ fn the_longest_record() {
         sheet,
         goals: &GOAL.repeat(4),
         history: &[0.1; 64],
+        weights: &[],
     };
     assert_eq!(sheet.plan().unwrap().entries, 296);
     let ask = |entries: usize| {

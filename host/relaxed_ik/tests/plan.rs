@@ -95,16 +95,14 @@ fn frames_take_what_is_planned_and_no_less() {
 #[test]
 fn the_record_takes_what_is_planned_and_no_less() {
     use relaxed_ik::{Given, RecordLists};
-    let goal = [
-        0.3, -0.2, 1.5, 1.0, 0.0, 0.0, 0.0, 0.0, 0.1, 0.0, 0.0, 0.5, 3.2,
-    ];
     for (lists, _) in arms() {
         let sheet = lists.sheet();
         let (plan, joints) = (sheet.plan().unwrap(), vec![0.1; sheet.joints()]);
         let given = Given {
             sheet,
-            goals: &goal.repeat(sheet.chains()),
+            goals: &lists::GOAL.repeat(sheet.chains()),
             history: &joints.repeat(4),
+            weights: &[],
         };
         let ask = |less: [usize; 3]| {
             let record = RecordLists {

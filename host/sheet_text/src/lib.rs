@@ -84,7 +84,7 @@ impl Text {
         }
     }
 
-    /// Joints, a block of the history, or a goal.
+    /// Joints, a block of the history, a goal, or weights.
     pub fn numbers(&mut self, word: &str, numbers: &[f64]) {
         self.line(&format!("{word} {}", row(numbers)));
     }

@@ -7,7 +7,7 @@
 mod samples;
 
 use reference::groove::objective_master::ObjectiveMaster;
-use reference::{record, refusals, sheet};
+use reference::{record, refusals, sheet, weights};
 use samples::{Arms, Chain, Sample};
 use sheet_text::{Text, PARTS};
 use std::fs;
@@ -67,7 +67,8 @@ fn goals(sample: &Sample, lists: &Lists) -> Vec<f64> {
 }
 
 /// Whether the scope paper takes the sheet, by the reference's own refusals.
-fn taken(lists: &Lists, goals: &[f64], history: &[f64], joints: &[f64]) -> bool {
+fn taken(sample: &Sample, lists: &Lists, goals: &[f64], history: &[f64]) -> bool {
+    let joints = &sample.joints;
     let list = refusals::List::of;
     let sheet = refusals::Sheet {
         sizes: refusals::List::of(&lists.sizes),
@@ -83,6 +84,7 @@ fn taken(lists: &Lists, goals: &[f64], history: &[f64], joints: &[f64]) -> bool 
         sheet,
         goals: list(goals),
         history: list(history),
+        weights: list(sample.own_weights()),
     };
     refusals::objective(&given, list(joints), room) == refusals::ACCEPTED
 }
@@ -97,7 +99,7 @@ fn good(sample: &Sample) -> String {
         None => joints.repeat(4),
     };
     assert!(
-        taken(&lists, &goals, &history, joints),
+        taken(sample, &lists, &goals, &history),
         "{}: the sample is refused",
         sample.file
     );
@@ -113,6 +115,9 @@ fn good(sample: &Sample) -> String {
     }
     for goal in goals.chunks_exact(13) {
         text.numbers("goal", goal);
+    }
+    if let Some(weights) = &sample.weights {
+        text.numbers("weights", weights);
     }
     if sample.filed {
         text.line("");
@@ -173,7 +178,7 @@ fn file(text: &mut Text, sample: &Sample, lists: &Lists, goals: &[f64], history:
         robot.get_manipulability_immutable(&sample.joints),
     );
     if !goals.is_empty() {
-        let master = ObjectiveMaster::relaxed_ik(&robot.chain_lengths);
+        let master = weights::master(&robot.chain_lengths, sample.own_weights());
         let vars = sheet::lent(robot, goals, history);
         let (value, slopes) = master.gradient(&sample.joints, &vars);
         text.filed("objective", value);

@@ -20,7 +20,16 @@ pub struct Sample {
     pub history: Option<[Vec<f64>; 4]>,
     /// The joints whose end poses are the goals, and every chain's tolerances.
     pub goal: Option<(Vec<f64>, [f64; 6])>,
+    /// None for the built-in ones.
+    pub weights: Option<[f64; 8]>,
     pub filed: bool,
+}
+
+impl Sample {
+    /// As a call is lent them: an empty list for the built-in ones.
+    pub fn own_weights(&self) -> &[f64] {
+        self.weights.as_ref().map_or(&[], |weights| weights)
+    }
 }
 
 const STRAIGHT: [f64; 4] = [1.0, 0.0, 0.0, 0.0];
@@ -132,6 +141,7 @@ pub fn good() -> Vec<Sample> {
             joints: rig_joints.clone(),
             history: None,
             goal: Some((beside(&rig_joints, 0.001), [0.0, 0.0, 0.05, 0.1, 0.1, 3.2])),
+            weights: None,
             filed: true,
         },
         Sample {
@@ -143,6 +153,7 @@ pub fn good() -> Vec<Sample> {
             joints: slid.clone(),
             history: Some([-0.01, -0.02, -0.04, -0.05].map(|by| beside(&slid, by))),
             goal: Some((beside(&slid, 0.004), [0.1, 0.2, 0.0, 0.0, 0.5, 3.2])),
+            weights: None,
             filed: true,
         },
         Sample {
@@ -153,6 +164,7 @@ pub fn good() -> Vec<Sample> {
             joints: both.clone(),
             history: None,
             goal: Some((beside(&both, -0.05), [0.3, 0.1, 0.2, 0.1, 0.1, 0.1])),
+            weights: None,
             filed: true,
         },
         Sample {
@@ -163,6 +175,7 @@ pub fn good() -> Vec<Sample> {
             joints: many.clone(),
             history: None,
             goal: Some((beside(&many, 0.04), [0.0; 6])),
+            weights: None,
             filed: true,
         },
         Sample {
@@ -178,6 +191,7 @@ pub fn good() -> Vec<Sample> {
             joints: vec![0.0, 0.0],
             history: None,
             goal: None,
+            weights: None,
             filed: true,
         },
         Sample {
@@ -188,7 +202,19 @@ pub fn good() -> Vec<Sample> {
             joints: beside(&rig_joints, 0.2),
             history: None,
             goal: Some((beside(&rig_joints, 0.25), [0.0, 0.0, 0.05, 0.1, 0.1, 3.2])),
+            weights: None,
             filed: false,
+        },
+        Sample {
+            file: "granite",
+            about: "The crew's own weights: rotation, and so azimuth, counts more than position.",
+            hole: "Collar 21, in granite",
+            chains: rig(),
+            joints: rig_joints.clone(),
+            history: Some([-0.01, -0.02, -0.04, -0.05].map(|by| beside(&rig_joints, by))),
+            goal: Some((beside(&rig_joints, 0.002), [0.0, 0.0, 0.05, 0.1, 0.1, 3.2])),
+            weights: Some([20.0, 60.0, 0.1, 0.7, 0.5, 0.3, 2.0, 0.25]),
+            filed: true,
         },
     ]
 }
@@ -279,6 +305,13 @@ pub fn bad() -> Vec<Bad> {
         line,
         change: Change::Words(old, new),
     };
+    // A line that the sheet does not have.
+    let before = |file, status, line| Bad {
+        file,
+        status,
+        line: "goal",
+        change: Change::Before(line),
+    };
     vec![
         Bad {
             file: "refused_1_too_many_links",
@@ -342,6 +375,22 @@ pub fn bad() -> Vec<Bad> {
             "joints nan",
         ),
         words("refused_8_tolerance", 18, "goal", " 3.2", " 320"),
+        before(
+            "refused_10_nine_weights",
+            20,
+            "weights 20 60 0.1 0.7 0.5 0.3 2 0.25 1",
+        ),
+        before(
+            "refused_10_weight",
+            20,
+            "weights 20 1000.5 0.1 0.7 0.5 0.3 2 0.25",
+        ),
+        before("refused_10_no_weights", 20, "weights"),
+        before(
+            "text_weights_with_commas",
+            3,
+            "weights 20, 60, 0.1, 0.7, 0.5, 0.3, 2, 0.25",
+        ),
         words("text_not_a_number", 3, "limits -1.2 1.4", "-1.2", "-1,2"),
         words("text_unknown_word", 3, "joints", "joints", "angles"),
         words(

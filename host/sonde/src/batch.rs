@@ -1,6 +1,6 @@
 //! A folder of sheets: a progress line while it runs, a table after it.
 
-use crate::report::{object, Outcome};
+use crate::report::{object, weights_from, Outcome};
 use std::io::{IsTerminal, Write as _};
 use std::path::Path;
 use std::{fs, io};
@@ -66,7 +66,9 @@ fn row(outcome: &Outcome, width: usize) -> String {
         name.to_string_lossy().into_owned()
     });
     let (mut azimuth, mut inclination, mut filed) = (String::new(), String::new(), String::new());
-    if let Ok((_, work)) = &outcome.result {
+    let mut weights = "";
+    if let Ok((file, work)) = &outcome.result {
+        weights = weights_from(file, work).unwrap_or_default();
         if let Some(chain) = work.chains.first() {
             azimuth = chain
                 .direction
@@ -80,7 +82,7 @@ fn row(outcome: &Outcome, width: usize) -> String {
         }
     }
     let text = format!(
-        "{name:<width$} {:<14} {azimuth:>8} {inclination:>11} {filed:>7}  {}",
+        "{name:<width$} {:<14} {azimuth:>8} {inclination:>11} {weights:>8} {filed:>7}  {}",
         outcome.word(),
         outcome.note()
     );
@@ -97,8 +99,8 @@ pub fn table(outcomes: &[Outcome]) -> String {
     };
     let width = outcomes.iter().map(file).max().unwrap_or(0).max(5);
     let mut lines = vec![format!(
-        "{:<width$} {:<14} {:>8} {:>11} {:>7}  note",
-        "sheet", "outcome", "azimuth", "inclination", "filed"
+        "{:<width$} {:<14} {:>8} {:>11} {:>8} {:>7}  note",
+        "sheet", "outcome", "azimuth", "inclination", "weights", "filed"
     )];
     lines.extend(outcomes.iter().map(|outcome| row(outcome, width)));
     let counts = WORDS

@@ -28,13 +28,13 @@ sonde --version
   --svg FILE   draws the arm and its goals into FILE
   --batch DIR  every *.sheet of a folder, and a table of them
   --sizes      how long the lists are that a program reserves for the arms of
-               SHEET; limits, joints and goals are read and not judged
+               SHEET; limits, joints, goals and weights are read and not judged
   --version    the program's version, and the proved library it is linked with
 
 exit status: 0 worked out, and every filed figure agrees (with --sizes: planned);
 1 a filed figure differs (with --batch: a sheet is not good); 2 a file or the
-command line cannot be used; 3 a fault in the text; 11 to 18 refused by the
-library, with number 1 to 8";
+command line cannot be used; 3 a fault in the text; 11 to 18 and 20 refused by
+the library, with number 1 to 8 and 10";
 
 #[derive(Debug, Default, PartialEq)]
 struct Options {
@@ -268,6 +268,8 @@ mod tests {
             "free",
             "joints",
             "history",
+            "weights",
+            "1000.5",
         ];
         let mut met = std::collections::BTreeMap::new();
         for _ in 0..4000 {
@@ -307,7 +309,7 @@ mod tests {
             // What a sheet is refused for in its arms, sizing tells as well.
             match outcome.status() {
                 status @ (11..=14 | 16) => assert_eq!(planned.status(), status, "{text}"),
-                0 | 1 | 17 | 18 => assert_eq!(planned.status(), GOOD, "{text}"),
+                0 | 1 | 17 | 18 | 20 => assert_eq!(planned.status(), GOOD, "{text}"),
                 _ => {}
             }
             if let Ok((file, work)) = &outcome.result {
@@ -316,7 +318,7 @@ mod tests {
             *met.entry(outcome.status()).or_insert(0) += 1;
         }
         // Every status but 2 can come of a text.
-        for status in [0, 1, 3, 11, 12, 13, 14, 15, 16, 17, 18] {
+        for status in [0, 1, 3, 11, 12, 13, 14, 15, 16, 17, 18, 20] {
             assert!(met.contains_key(&status), "{status}: {met:?}");
         }
     }

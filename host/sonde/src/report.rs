@@ -2,6 +2,7 @@
 
 use crate::text::{File, PARTS};
 use crate::work::{part_of, with_bits, Fault, Verdict, Work, HAS_OBJECTIVE};
+use relaxed_ik::WEIGHTS;
 use std::fmt::Write as _;
 
 /// Exit statuses. A refused sheet ends with `REFUSED` plus its number.
@@ -27,7 +28,7 @@ impl Problem {
         match self {
             Self::Unreadable(_) => UNUSABLE,
             Self::Fault(Fault::Text(_)) => TEXT_FAULT,
-            // The numbers are 1 to 9.
+            // The numbers are 1 to 10.
             Self::Fault(Fault::Refused { refusal, .. }) => REFUSED + refusal.number() as u8,
         }
     }
@@ -131,9 +132,6 @@ impl Outcome {
             Err(problem) => return problem.text(&self.path),
         };
         let mut out = title(file, &self.path);
-        let line = |out: &mut String, name: &str, v: f64| {
-            let _ = writeln!(out, "  {name:<16} {v:<24} {:016x}", v.to_bits());
-        };
         for chain in &work.chains {
             let (links, joints) = (chain.codes.len(), chain.joints);
             let _ = writeln!(
@@ -158,20 +156,7 @@ impl Outcome {
         }
         let _ = writeln!(out, "\nthe sheet as a whole");
         line(&mut out, "manipulability", work.manipulability);
-        match &work.objective {
-            Some(objective) => {
-                line(&mut out, "objective", objective.value);
-                for (joint, slope) in objective.slopes.iter().enumerate() {
-                    line(&mut out, &format!("slope {joint}"), *slope);
-                }
-            }
-            None if file.goals.is_empty() => {
-                let _ = writeln!(out, "  no goals, so no objective");
-            }
-            None => {
-                let _ = writeln!(out, "  the objective is not in this build");
-            }
-        }
+        out.push_str(&objective_text(file, work));
         let _ = writeln!(
             out,
             "\nPoses{} are the proved library's. Azimuth and inclination are\n\
@@ -207,6 +192,44 @@ pub fn title(file: &File, path: &str) -> String {
         &file.hole
     };
     format!("{hole}, from {path}\n")
+}
+
+fn line(out: &mut String, name: &str, v: f64) {
+    let _ = writeln!(out, "  {name:<16} {v:<24} {:016x}", v.to_bits());
+}
+
+/// Whose weights the objective was summed by; of no objective, nobody's.
+pub fn weights_from(file: &File, work: &Work) -> Option<&'static str> {
+    work.objective.as_ref()?;
+    Some(match file.weights {
+        Some(_) => "sheet",
+        None => "built-in",
+    })
+}
+
+/// The sheet's weights by name; of the built-in ones none, which are the library's.
+fn named_weights(file: &File) -> impl Iterator<Item = (&'static str, f64)> + '_ {
+    let numbers = file.weights.iter().flat_map(|row| &row.numbers);
+    WEIGHTS.into_iter().zip(numbers.copied())
+}
+
+fn objective_text(file: &File, work: &Work) -> String {
+    let mut out = String::new();
+    let (Some(objective), Some(from)) = (&work.objective, weights_from(file, work)) else {
+        return match file.goals.is_empty() {
+            true => "  no goals, so no objective\n".to_string(),
+            false => "  the objective is not in this build\n".to_string(),
+        };
+    };
+    line(&mut out, "objective", objective.value);
+    for (joint, slope) in objective.slopes.iter().enumerate() {
+        line(&mut out, &format!("slope {joint}"), *slope);
+    }
+    let _ = writeln!(out, "  {:<16} {from}", "weights");
+    for (name, v) in named_weights(file) {
+        line(&mut out, &format!("  {name}"), v);
+    }
+    out
 }
 
 fn filed_text(work: &Work) -> String {
@@ -353,8 +376,15 @@ fn work_json(file: &File, work: &Work) -> Vec<(&'static str, String)> {
             optional(work.objective.as_ref().map(|found| float(found.value))),
         ),
         ("slopes", optional(slopes)),
+        ("weights", optional(weights_json(file, work))),
         ("filed", array(work.checks.iter().map(check))),
     ]
+}
+
+fn weights_json(file: &File, work: &Work) -> Option<String> {
+    let mut fields = vec![("from", string(weights_from(file, work)?))];
+    fields.extend(named_weights(file).map(|(name, v)| (name, float(v))));
+    Some(object(&fields))
 }
 
 fn problem_json(problem: &Problem) -> String {

@@ -105,6 +105,8 @@ pub struct File {
     pub joints: Vec<Row>,
     pub history: Vec<Row>,
     pub goals: Vec<Row>,
+    /// None for the built-in ones.
+    pub weights: Option<Row>,
     pub filed: Vec<Filed>,
 }
 
@@ -118,6 +120,7 @@ pub struct Lists {
     pub joints: Vec<f64>,
     pub history: Vec<f64>,
     pub goals: Vec<f64>,
+    pub weights: Vec<f64>,
 }
 
 impl Lists {
@@ -167,6 +170,7 @@ impl File {
             joints: all(&self.joints),
             history: all(&self.history),
             goals: all(&self.goals),
+            weights: all(self.weights.as_slice()),
         }
     }
 
@@ -417,6 +421,8 @@ pub fn parse(bytes: &[u8]) -> Read<File> {
             "joints" => file.joints.push(row(line, rest)?),
             "history" => file.history.push(row(line, rest)?),
             "goal" => file.goals.push(row(line, rest)?),
+            "weights" if file.weights.is_some() => return fault(line, "a second line of weights"),
+            "weights" => file.weights = Some(row(line, rest)?),
             "filed" => {
                 let filed = filed(line, rest, &file.chains)?;
                 if file.filed.iter().any(|other| other.key == filed.key) {
@@ -455,6 +461,7 @@ link prismatic -y  0 0 1  1 0 0 0
 limits free
 joints 0.5 0x3ff0000000000000
 goal 0 0 1  1 0 0 0  0 0 0 0 0 0
+weights 20 60 0.1 0.7 0.5 0.3 1 -0
 filed mast.x 1.5 3ff8000000000000
 filed mast.azimuth 90.00
 filed slope.1 -0 8000000000000000
@@ -475,6 +482,7 @@ filed slope.1 -0 8000000000000000
         assert_eq!(lists.limits, [-3.0, 3.0, -999.0, 999.0]);
         assert_eq!(lists.joints, [0.5, 1.0]);
         assert_eq!((lists.floats.len(), lists.goals.len()), (21, 13));
+        assert_eq!(lists.weights, [20.0, 60.0, 0.1, 0.7, 0.5, 0.3, 1.0, -0.0]);
         let keys: Vec<Key> = file.filed.iter().map(|filed| filed.key).collect();
         assert_eq!(keys, [Key::End(0, 0), Key::Azimuth(0), Key::Slope(1)]);
         assert_eq!(file.filed[2].figure, Figure::Exact(-0.0));
@@ -502,13 +510,15 @@ filed slope.1 -0 8000000000000000
             ("0 0 1  1", "0 0 l  1", 5, "not a number: l"),
             ("limits -3 3", "limits -3 ,3", 6, "not a number: ,3"),
             ("0x3ff0000000000000", "0x3ff", 10, "16 hexadecimal"),
-            ("mast.x", "mast.v", 12, "no figure"),
-            ("mast.x", "boom.x", 12, "no chain named boom"),
-            ("1.5 3ff8", "1.25 3ff8", 12, "the bits are those of 1.5"),
-            ("1.5 3ff8000000000000", "1.5", 12, "a decimal and its bits"),
-            ("90.00", "90.00 4056800000000000", 13, "without bits"),
-            ("90.00", "9e1", 13, "not degrees"),
-            ("slope.1", "mast.x", 14, "a second time"),
+            ("20 60", "20, 60", 12, "not a number: 20,"),
+            ("20 60", "20\nweights 60", 13, "a second line of weights"),
+            ("mast.x", "mast.v", 13, "no figure"),
+            ("mast.x", "boom.x", 13, "no chain named boom"),
+            ("1.5 3ff8", "1.25 3ff8", 13, "the bits are those of 1.5"),
+            ("1.5 3ff8000000000000", "1.5", 13, "a decimal and its bits"),
+            ("90.00", "90.00 4056800000000000", 14, "without bits"),
+            ("90.00", "9e1", 14, "not degrees"),
+            ("slope.1", "mast.x", 15, "a second time"),
         ] {
             let text = GOOD.replacen(good, bad, 1);
             assert_ne!(text, GOOD);
@@ -518,7 +528,7 @@ filed slope.1 -0 8000000000000000
         }
         assert_eq!(told("# nothing\n"), (None, "an empty sheet".to_string()));
         let (line, words) = told(&GOOD.replacen("goal", "#", 1));
-        assert_eq!(line, Some(14));
+        assert_eq!(line, Some(15));
         assert!(words.contains("has no goal"), "{words}");
     }
 

@@ -4,7 +4,7 @@
 //! its words stand alone.
 
 use crate::text::{Chain, File, Row};
-use relaxed_ik::Refusal;
+use relaxed_ik::{Refusal, WEIGHTS};
 
 /// A line of the file, if it is one, and what is wrong there.
 type Place = (Option<usize>, String);
@@ -36,6 +36,7 @@ pub fn find(refusal: Refusal, file: &File) -> Option<Place> {
         Refusal::Link => links(file),
         Refusal::Joints => blocks(file),
         Refusal::Goals => goals(file),
+        Refusal::Weights => weights(file),
         _ => None,
     }
 }
@@ -269,4 +270,22 @@ fn goals(file: &File) -> Option<Place> {
             format!("a goal line for each of {chains} chains is needed, the sheet has {found}"),
         )
     })
+}
+
+fn weights(file: &File) -> Option<Place> {
+    let row = file.weights.as_ref()?;
+    let (needed, found) = (WEIGHTS.len(), row.numbers.len());
+    if found != needed {
+        let names = WEIGHTS.join(", ");
+        return at(
+            row.line,
+            format!("a weights line of {found} numbers, {needed} are needed: {names}"),
+        );
+    }
+    let mut named = WEIGHTS.iter().zip(&row.numbers);
+    let (name, v) = named.find(|(_, v)| !within(**v, 0.0, 1000.0))?;
+    at(
+        row.line,
+        format!("the weight of {name} is {v}, not within 0..1000"),
+    )
 }

@@ -1,6 +1,6 @@
 //! A sheet worked out again: everything but the direction is the library's.
 
-use crate::text::{same, Figure, File, Filed, Key, TextFault};
+use crate::text::{same, Figure, File, Filed, Key, Lists, TextFault};
 use crate::why;
 use relaxed_ik::{Frames, Plan, Pose, Refusal};
 
@@ -189,19 +189,16 @@ fn degrees(computed: Option<f64>, figure: &Figure) -> Verdict {
     }
 }
 
+/// By the weights of the lists, or the built-in ones if they have none.
 #[cfg(feature = "objective")]
-fn objective(
-    sheet: relaxed_ik::Sheet,
-    goals: &[f64],
-    history: &[f64],
-    joints: &[f64],
-) -> Result<Option<Slopes>, Refusal> {
+fn objective(lists: &Lists, history: &[f64]) -> Result<Option<Slopes>, Refusal> {
     let given = relaxed_ik::Given {
-        sheet,
-        goals,
+        sheet: lists.sheet(),
+        goals: &lists.goals,
         history,
+        weights: &lists.weights,
     };
-    let (found, _) = given.gradient_one_block(joints)?;
+    let (found, _) = given.gradient_one_block(&lists.joints)?;
     Ok(Some(Slopes {
         value: found.value,
         slopes: found.slopes,
@@ -209,60 +206,63 @@ fn objective(
 }
 
 #[cfg(not(feature = "objective"))]
-fn objective(
-    _: relaxed_ik::Sheet,
-    _: &[f64],
-    _: &[f64],
-    _: &[f64],
-) -> Result<Option<Slopes>, Refusal> {
+fn objective(_: &Lists, _: &[f64]) -> Result<Option<Slopes>, Refusal> {
     Ok(None)
 }
 
 /// Asks the library for everything. Its calls look at everything they are lent,
 /// lowest number first, and are asked in the order of their own numbers: the
-/// sheet, joints and history, goals.
+/// sheet, joints and history, goals, weights.
+fn answered(file: &File, lists: &Lists) -> Result<Work, Refusal> {
+    let sheet = lists.sheet();
+    sheet.load()?;
+    let ends = sheet.poses(&lists.joints)?;
+    let frames = sheet.frames(&lists.joints)?;
+    let manipulability = sheet.manipulability(&lists.joints)?;
+    let history = if file.history.is_empty() {
+        sheet.reset(&lists.joints)?.history
+    } else {
+        // Only to have it looked at.
+        sheet.update(&lists.history, &lists.joints)?;
+        lists.history.clone()
+    };
+    if !file.goals.is_empty() {
+        sheet.set_goals(&lists.goals)?;
+    }
+    // A line of no number is not the same as no line, which the objective cannot tell.
+    if file.weights.is_some() {
+        relaxed_ik::set_weights(&lists.weights)?;
+    }
+    let objective = match file.goals.is_empty() {
+        true => None,
+        false => objective(lists, &history)?,
+    };
+    let parts = file.chains.iter().zip(ends).zip(frames).enumerate();
+    let chains = parts.map(|(at, ((chain, end), frames))| ChainWork {
+        name: chain.name.clone(),
+        codes: chain.links.iter().map(|link| link.code).collect(),
+        joints: chain.joints(),
+        direction: Direction::of(&end),
+        end,
+        frames,
+        goal: file.goals.get(at).map(|row| row.numbers.clone()),
+    });
+    Ok(Work {
+        chains: chains.collect(),
+        manipulability,
+        objective,
+        checks: Vec::new(),
+    })
+}
+
+/// The sheet worked out, and every filed figure held against it.
 pub fn work(file: &File) -> Result<Work, Fault> {
     if let Some(uneven) = file.uneven() {
         return Err(Fault::Text(uneven));
     }
     let lists = file.lists();
-    let sheet = lists.sheet();
-    let answer = || -> Result<Work, Refusal> {
-        sheet.load()?;
-        let ends = sheet.poses(&lists.joints)?;
-        let frames = sheet.frames(&lists.joints)?;
-        let manipulability = sheet.manipulability(&lists.joints)?;
-        let history = if file.history.is_empty() {
-            sheet.reset(&lists.joints)?.history
-        } else {
-            // Only to have it looked at.
-            sheet.update(&lists.history, &lists.joints)?;
-            lists.history.clone()
-        };
-        let mut found = None;
-        if !file.goals.is_empty() {
-            sheet.set_goals(&lists.goals)?;
-            found = objective(sheet, &lists.goals, &history, &lists.joints)?;
-        }
-        let parts = file.chains.iter().zip(ends).zip(frames).enumerate();
-        let chains = parts.map(|(at, ((chain, end), frames))| ChainWork {
-            name: chain.name.clone(),
-            codes: chain.links.iter().map(|link| link.code).collect(),
-            joints: chain.joints(),
-            direction: Direction::of(&end),
-            end,
-            frames,
-            goal: file.goals.get(at).map(|row| row.numbers.clone()),
-        });
-        Ok(Work {
-            chains: chains.collect(),
-            manipulability,
-            objective: found,
-            checks: Vec::new(),
-        })
-    };
-    let mut work = answer().map_err(|refusal| Fault::refused(refusal, file))?;
-    let joints = sheet.joints();
+    let mut work = answered(file, &lists).map_err(|refusal| Fault::refused(refusal, file))?;
+    let joints = lists.sheet().joints();
     let beyond = |filed: &&Filed| matches!(filed.key, Key::Slope(at) if at >= joints);
     if let Some(filed) = file.filed.iter().find(beyond) {
         return Err(Fault::Text(TextFault {
@@ -445,6 +445,28 @@ filed arm.z 2 4000000000000000
                 8,
                 "tolerance 5 is -200",
             ),
+            (
+                "filed",
+                "weights 1 1 1 1 1 1 1 1 1\nfiled",
+                10,
+                9,
+                "9 numbers, 8",
+            ),
+            ("filed", "weights # none\nfiled", 10, 9, "0 numbers, 8"),
+            (
+                "filed",
+                "weights 1 1000.5 1 1 1 1 1 1\nfiled",
+                10,
+                9,
+                "the weight of rotation is 1000.5",
+            ),
+            (
+                "filed",
+                "weights 1 1 1 1 1 1 1 nan\nfiled",
+                10,
+                9,
+                "the weight of pairs is NaN",
+            ),
         ] {
             let file = spoiled(good, bad);
             let (found, at, said) = told(work(&file).unwrap_err());
@@ -453,7 +475,7 @@ filed arm.z 2 4000000000000000
             // Sizing tells the same of the arms, and looks at nothing else.
             match plan(&file) {
                 Err(fault) => assert_eq!(told(fault), (found, at, said)),
-                Ok(_) => assert!([5, 7, 8].contains(&number), "{bad}"),
+                Ok(_) => assert!([5, 7, 8, 10].contains(&number), "{bad}"),
             }
         }
         let far = format!("{TWO}filed slope.2 0 0000000000000000\n");

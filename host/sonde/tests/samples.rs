@@ -105,7 +105,7 @@ fn bad_sheets_end_as_they_say() {
         assert!(text.contains(&format!("{place}: ")), "{text}");
         statuses.push(output.status.code().unwrap());
     }
-    for number in 1..=8 {
+    for number in (1..=8).chain([10]) {
         assert!(
             statuses.contains(&(10 + number)),
             "no sheet refused by {number}"
@@ -158,6 +158,69 @@ fn sizing_looks_at_the_arms_alone() {
                 assert_eq!(field(&json, "outcome"), "\"planned\"");
             }
         }
+    }
+}
+
+/// Whose weights were in force is told in words, to programs and in the table.
+#[cfg(feature = "objective")]
+#[test]
+fn weights_are_told() {
+    let table = said(&sonde(&["--batch", folder("good").to_str().unwrap()]));
+    let weights_at = table.find(" weights ").unwrap();
+    let mut met = std::collections::BTreeSet::new();
+    for path in sheets("good") {
+        let sheet = fs::read_to_string(&path).unwrap();
+        let has = |word: &str| sheet.lines().any(|line| line.starts_with(word));
+        let from = match (has("goal "), has("weights ")) {
+            (false, _) => "",
+            (_, true) => "sheet",
+            (_, false) => "built-in",
+        };
+        met.insert(from);
+        let text = said(&sonde(&[path.to_str().unwrap()]));
+        let json = said(&sonde(&[path.to_str().unwrap(), "--json"]));
+        match from {
+            "" => {
+                assert!(!text.contains("\n  weights "), "{text}");
+                assert_eq!(field(&json, "weights"), "null");
+            }
+            _ => {
+                assert_eq!(number(&text, "weights "), from);
+                assert_eq!(field(&json, "from"), format!("\"{from}\""));
+            }
+        }
+        let name = path.file_name().unwrap().to_str().unwrap();
+        let row = table.lines().find(|line| line.starts_with(name)).unwrap();
+        let column = row.chars().skip(weights_at).take(8).collect::<String>();
+        assert_eq!(column.trim(), from, "{row}");
+    }
+    assert_eq!(met.len(), 3, "a sheet of each kind");
+}
+
+/// The filed objective and slopes are those of the weights: with others, and with
+/// the built-in ones, they differ, and nothing else does.
+#[cfg(feature = "objective")]
+#[test]
+fn weights_act_on_the_objective_alone() {
+    let path = folder("good").join("granite.sheet");
+    let sheet = fs::read_to_string(path).unwrap();
+    let line = sheet.lines().find(|line| line.starts_with("weights "));
+    let line = line.unwrap();
+    let of_weights = |figure: &str| figure == "objective" || figure.starts_with("slope.");
+    let figures = sheet.lines().filter_map(|line| line.strip_prefix("filed "));
+    let figures = figures.map(|figure| figure.split(' ').next().unwrap());
+    let expected: Vec<&str> = figures.filter(|figure| of_weights(figure)).collect();
+    for (name, other) in [("none", ""), ("ones", "weights 1 1 1 1 1 1 1 1")] {
+        let file = Path::new(env!("CARGO_TARGET_TMPDIR")).join(format!("{name}.sheet"));
+        fs::write(&file, sheet.replacen(line, other, 1)).unwrap();
+        let output = sonde(&[file.to_str().unwrap()]);
+        assert_eq!(output.status.code(), Some(1));
+        let text = said(&output);
+        let differ = text.lines().filter(|line| line.starts_with("DIFFERS"));
+        let differ: Vec<&str> = differ
+            .map(|line| line.rsplit(' ').next().unwrap())
+            .collect();
+        assert_eq!(differ, expected);
     }
 }
 

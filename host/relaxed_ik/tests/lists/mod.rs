@@ -1,9 +1,18 @@
-//! Sheets written by hand.
+//! Sheets written by hand, and lists that are lent with them.
+
+// Each file of tests takes what it needs of these.
+#![allow(dead_code)]
 
 use relaxed_ik::{Refusal, Sheet};
 use std::borrow::Borrow;
 
-const UP: [f64; 7] = [0.0, 0.0, 1.0, 1.0, 0.0, 0.0, 0.0];
+pub const UP: [f64; 7] = [0.0, 0.0, 1.0, 1.0, 0.0, 0.0, 0.0];
+/// A goal within reach, with a tolerance of each kind.
+pub const GOAL: [f64; 13] = [
+    0.3, -0.2, 1.5, 1.0, 0.0, 0.0, 0.0, 0.0, 0.1, 0.0, 0.0, 0.5, 3.2,
+];
+/// The weights that serve where none are lent.
+pub const BUILT_IN: [f64; 8] = [50.0, 10.0, 0.1, 0.7, 0.5, 0.3, 1.0, 0.01];
 
 /// A sheet that can be spoiled.
 #[derive(Clone)]

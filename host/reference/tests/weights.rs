@@ -1,0 +1,100 @@
+//! Weights set in the published list of priors, and what the published master
+//! answers with them.
+
+use reference::groove::objective_master::ObjectiveMaster;
+use reference::groove::vars::RelaxedIKVars;
+use reference::sheet;
+use reference::weights::{built_in, master, Weighted, WEIGHTS};
+
+/// One weight a kind, no two the same.
+const OWN: [f64; WEIGHTS] = [20.0, 60.0, 0.25, 3.0, 1000.0, 0.0, 7.5, 0.125];
+const LENGTHS: [&[usize]; 5] = [&[2], &[3], &[7], &[6, 3], &[4, 4, 4, 4]];
+
+/// Two chains, of six joints and of three, near a goal each.
+fn vars() -> RelaxedIKVars {
+    let codes = [13, 12, 11, 13, 12, 11, 13, 32, 21];
+    let link = [0.1, 0.0, 0.3, 0.8, 0.0, 0.6, 0.0];
+    let limits = [-3.0, 3.0].repeat(codes.len());
+    let robot = sheet::robot(&[2, 6, 3], &codes, &link.repeat(codes.len()), &limits);
+    let ends = sheet::ends(&robot, &JOINTS.map(|v| v + 0.01));
+    let goals = ends.chunks_exact(7);
+    let goals = goals.flat_map(|end| [end, &[0.0, 0.1, 0.0, 0.0, 0.5, 3.2]].concat());
+    let goals: Vec<f64> = goals.collect();
+    let mut vars = sheet::vars(robot, &goals, &JOINTS.map(|v| v * 0.9));
+    vars.update(JOINTS.map(|v| v * 0.97).to_vec());
+    vars
+}
+
+const JOINTS: [f64; 9] = [0.1, -0.2, 0.3, 0.4, -0.5, 0.6, 0.7, 0.8, 0.9];
+
+#[test]
+fn the_built_in_weights_are_those_of_the_paper() {
+    assert_eq!(built_in(), [50.0, 10.0, 0.1, 0.7, 0.5, 0.3, 1.0, 0.01]);
+}
+
+/// By the order of document 01's list of objectives.
+#[test]
+fn every_objective_has_the_weight_of_its_kind() {
+    for lengths in LENGTHS {
+        let joints: usize = lengths.iter().sum();
+        let mut expected = Vec::new();
+        for _ in lengths {
+            expected.extend([OWN[0], OWN[0], OWN[0], OWN[1], OWN[1], OWN[1]]);
+        }
+        expected.extend(vec![OWN[2]; joints]);
+        expected.extend(&OWN[3..7]);
+        // Pairs of joints that are no neighbours.
+        let pairs: usize = lengths.iter().map(|n| (n - 1) * (n - 2) / 2).sum();
+        expected.extend(vec![OWN[7]; pairs]);
+        assert_eq!(master(lengths, &OWN).weight_priors, expected, "{lengths:?}");
+    }
+}
+
+#[test]
+fn without_a_list_the_published_weights_serve() {
+    for lengths in LENGTHS {
+        let published = ObjectiveMaster::relaxed_ik(lengths).weight_priors;
+        assert_eq!(master(lengths, &[]).weight_priors, published);
+        assert_eq!(master(lengths, &built_in()).weight_priors, published);
+        let mut weighted = Weighted::new(lengths);
+        weighted.set(&[0.0; WEIGHTS]);
+        assert!(weighted.master.weight_priors.iter().all(|&v| v == 0.0));
+        weighted.set(&[]);
+        assert_eq!(weighted.master.weight_priors, published);
+    }
+}
+
+/// The weighted sum of the published objectives, in the order of the list.
+#[test]
+fn the_value_is_the_weighted_sum() {
+    let vars = vars();
+    let lengths = &vars.robot.chain_lengths;
+    let frames = vars.robot.get_frames_immutable(&JOINTS);
+    let master = master(lengths, &OWN);
+    let costs = master.objectives.iter();
+    let costs = costs.map(|objective| objective.call(&JOINTS, &vars, &frames));
+    let sum = costs
+        .zip(&master.weight_priors)
+        .fold(0.0, |sum, (cost, weight)| sum + weight * cost);
+    let (value, slopes) = master.gradient(&JOINTS, &vars);
+    assert_eq!(master.call(&JOINTS, &vars).to_bits(), sum.to_bits());
+    assert_eq!(value.to_bits(), sum.to_bits());
+    let published = ObjectiveMaster::relaxed_ik(lengths).gradient(&JOINTS, &vars);
+    assert_ne!((value, slopes), published);
+}
+
+/// With every other weight 0, each kind still moves the value.
+#[test]
+fn every_kind_counts_alone() {
+    let vars = vars();
+    for kind in 0..WEIGHTS {
+        let value = |weight: f64| {
+            let mut weights = [0.0; WEIGHTS];
+            weights[kind] = weight;
+            master(&vars.robot.chain_lengths, &weights).call(&JOINTS, &vars)
+        };
+        assert_eq!(value(-0.0), 0.0, "kind {kind}");
+        assert_ne!(value(1.0), 0.0, "kind {kind}");
+        assert_eq!(value(2.0), 2.0 * value(1.0), "kind {kind}");
+    }
+}
