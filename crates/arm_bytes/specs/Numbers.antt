@@ -1,13 +1,12 @@
 -- Each byte call gets the lowest number of a condition that holds, and is accepted where none holds.
-use mathlib.Core.Path.{_≡_, refl, sym, ap, _∙_}
+use mathlib.Core.Path.{_≡_, refl, ap, _∙_}
 use mathlib.Core.List.{List, [], _∷_, _++_}
-use Prim.Native.Nat.{ℕ, zero, suc}
-use native.Mathlib.Omega.{arith}
+use Prim.Native.Nat.{ℕ}
 use lib.Ieee.{Float}
 use Rattle.refusals.specs.Lengths.{endsLength, historyLength, valueLength, planLength}
 use Rattle.refusals.specs.Lowest.{firstOf, first-assoc}
 use Rattle.refusals.specs.Refusal.{chainsOf, linksOf, sizingRefusal, blockRefusal, historyRefusal, roomRefusal}
-use Rattle.refusals.specs.Rows.{Row, firstRow, upFrom, IsLowest, lowest-row, loadRows, sizingRows, blockRow, historyRow, goalsRow, roomRow, block-row, history-row, goals-row, room-row, load-row, load-lowest, sizing-row, alone}
+use Rattle.refusals.specs.Rows.{Row, firstRow, upFrom, IsLowest, lowest-row, loadRows, sizingRows, blockRow, historyRow, goalsRow, roomRow, history-row, goals-row, room-row, load-row, load-lowest, sizing-row, alone}
 use Rattle.calls.specs.Frames.{poseRefusal}
 use Rattle.calls.specs.Rows.{framesRows, poseRows, room-alone, block-then, frames-rows, pose-rows}
 use Rattle.lent_bytes.specs.SheetLists.{SheetLists}

@@ -1,6 +1,6 @@
 -- `kept` meets its contract: list after list.
 use mathlib.Core.Path.{_≡_, refl, sym}
-use mathlib.Core.List.{List, [], _∷_}
+use mathlib.Core.List.{[], _∷_}
 use lib.ListN.{length}
 use Rattle.stored_answers.specs.Agree.{agrees-begin, agrees-on}
 use Rattle.sequences.specs.Table.{keptLists}
