@@ -62,7 +62,7 @@ pub const ANSWERED: usize = ASKED + 1;
 
 // The first output of a call.
 pub fn outputs_from(call: usize) -> usize
-    ensures { λ r. ⌜ (r ≡ outputsFrom call) × (1 ≤ r) × (r ≤ 8) ⌝ }
+    ensures { λ r. ⌜ (r ≡ outputsFrom call) × (r ≤ 8) ⌝ }
 {
     match call {
         0 => return LOAD_END,
@@ -106,7 +106,7 @@ fn outputs(call: usize) -> usize
 
 // How many lists a record of the call has.
 pub fn lists(call: usize) -> usize
-    ensures { λ r. ⌜ (r ≡ listsOf call) × (1 ≤ r) × (r ≤ 13) ⌝ }
+    ensures { λ r. ⌜ (r ≡ listsOf call) × (r ≤ 13) ⌝ }
 {
     outputs_from(call) + outputs(call)
 }

@@ -32,6 +32,7 @@ emptyParty = record {
 unfoldable pub emptyArms : Arms
 emptyArms = record { sizes = replicate 5 0; codes = replicate 64 0; floats = zeros 448; limits = zeros 32 }
 
+-- no list of weights
 unfoldable pub noWeights : Weights
 noWeights = record { loaded = false; list = zeros 8 }
 

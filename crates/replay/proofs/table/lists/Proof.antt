@@ -16,7 +16,7 @@ add-result c = search needs
 
 returns : tie.Need-returns
 unfolding listsOf
-returns c = (cc, omega arith, omega arith)
+returns c = (cc, omega arith)
 
 pub lists-spec : {M : Type 1} → statement M
 lists-spec = tie.close (tie.spec outputs-from-requires outputs-requires add-result returns)

@@ -1,10 +1,13 @@
 -- `load` meets its contract: a refusal keeps the state; an accepted sheet fits the arrays.
-use mathlib.Core.Path.{_≡_, sym, _∙_}
+use mathlib.Core.Path.{_≡_, sym, ap, _∙_}
 use native.Mathlib.Omega.{arith}
 use borrow.Author.Tests.{ne-eqb}
 use Rattle.refusals.specs.Refusal.{loadRefusal}
 use Rattle.refusals.specs.Passed.{load-passed}
-use Rattle.state_calls.specs.Load.{outcomeOf, loadOf}
+use Rattle.state_calls.specs.declared.state.Arms.{Arms}
+use Rattle.state_calls.specs.declared.state.Party.{Party}
+use Rattle.state_calls.specs.declared.state.Outcome.{Outcome}
+use Rattle.state_calls.specs.Load.{armsOf, outcomeOf, loadOf}
 use borrow.Author.Needs.{needs}
 use Rattle.state_calls.proofs.load.load.Statement.{statement}
 use Rattle.state_calls.proofs.load.load.Tie as tie
@@ -38,7 +41,10 @@ unfolding loadOf outcomeOf
 returns-2 c =
     let n = c .before .before .before .before .load-refusal in
     let e : loadRefusal _ _ _ _ ≡ 0 = sym (n .ensures) ∙ goes-on (c .before .before .before) in
-    rw e (cc)
+    let w = c .before .before .before .before .before .before .before .before .before .args .state .weights in
+    let loaded : Arms → Party → Outcome = λ arms party. record { number = 0; state = record { arms = arms; weights = w; party = party } } in
+    rw e
+    (ap (λ (arms : Arms). loaded arms (c .empty-party .result)) (c .before .before .stored .ensures) ∙ ap (loaded (armsOf _ _ _ _)) (c .empty-party .ensures))
 
 pub load-spec : {M : Type 1} → statement M
 load-spec =
