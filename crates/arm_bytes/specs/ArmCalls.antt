@@ -10,7 +10,7 @@ use Rattle.spacetime.specs.Frames.{positionsOf, rotationsOf, endsOf}
 use Rattle.manipulability.specs.Jacobian.{manipulabilityOf}
 use Rattle.refusals.specs.Lengths.{historyLength, valueLength, planLength}
 use Rattle.refusals.specs.Lowest.{firstOf}
-use Rattle.refusals.specs.Refusal.{chainsOf, linksOf, loadRefusal, sizingRefusal, blockRefusal, historyRefusal, goalsRefusal, roomRefusal}
+use Rattle.refusals.specs.Refusal.{chainsOf, linksOf, loadRefusal, sizingRefusal, blockRefusal, historyRefusal, goalsRefusal, roomRefusal, toolRefusal, toolsRefusal}
 use Rattle.calls.specs.Arms.{ifTaken}
 use Rattle.calls.specs.Frames.{framesRefusal, poseRefusal}
 use Rattle.sizing.specs.Sizing.{sheetPlan, planList}
@@ -34,9 +34,17 @@ setGoalsNumber s goals = firstOf (loadNumber s) (goalsRefusal (chainsOf (s .size
 unfoldable pub framesNumber : SheetLists → List Float → ℕ → ℕ → ℕ
 framesNumber s x positions rotations = firstOf (loadNumber s) (framesRefusal (linksOf (s .sizes)) (s .codes) x positions rotations)
 
--- end poses of block x: then 7, then 9
-unfoldable pub poseNumber : SheetLists → List Float → ℕ → ℕ
-poseNumber s x ends = firstOf (loadNumber s) (poseRefusal (linksOf (s .sizes)) (s .codes) x ends)
+-- setting chain c's tool: then 11
+unfoldable pub setToolNumber : SheetLists → List Float → ℕ → ℕ
+setToolNumber s tool c = firstOf (loadNumber s) (toolRefusal (chainsOf (s .sizes)) c tool)
+
+-- 11, for the tools that a call is lent
+abbrev pub toolsNumber : SheetLists → List Float → ℕ
+toolsNumber s tools = toolsRefusal (chainsOf (s .sizes)) tools
+
+-- end poses of block x: then 7, then 9, then 11
+unfoldable pub poseNumber : SheetLists → List Float → List Float → ℕ → ℕ
+poseNumber s tools x ends = firstOf (loadNumber s) (firstOf (poseRefusal (linksOf (s .sizes)) (s .codes) x ends) (toolsNumber s tools))
 
 -- an update with block x of a history, which is four joint blocks: then 7, for either, then 9
 unfoldable pub updateNumber : SheetLists → List Float → List Float → ℕ → ℕ
@@ -44,10 +52,11 @@ updateNumber s history x room =
     firstOf (loadNumber s)
     (firstOf (firstOf (blockRefusal (s .codes) x) (historyRefusal (s .codes) history)) (roomRefusal (historyLength (s .codes)) room))
 
--- a reset to block x: then 7, then 9 for either output
-unfoldable pub resetNumber : SheetLists → List Float → ℕ → ℕ → ℕ
-resetNumber s x history ends =
-    firstOf (loadNumber s) (firstOf (poseRefusal (linksOf (s .sizes)) (s .codes) x ends) (roomRefusal (historyLength (s .codes)) history))
+-- a reset to block x: then 7, then 9 for either output, then 11
+unfoldable pub resetNumber : SheetLists → List Float → List Float → ℕ → ℕ → ℕ
+resetNumber s tools x history ends =
+    firstOf (loadNumber s)
+    (firstOf (firstOf (poseRefusal (linksOf (s .sizes)) (s .codes) x ends) (roomRefusal (historyLength (s .codes)) history)) (toolsNumber s tools))
 
 -- manipulability at block x: then 7, then 9 for an output without room for one float
 unfoldable pub manipulabilityNumber : SheetLists → List Float → ℕ → ℕ
@@ -62,15 +71,15 @@ planNumbers sizes codes = planList (sheetPlan sizes codes)
 abbrev pub posesOn : SheetLists → List Float → ℕ → Pose
 posesOn s x = poseOf (linksOf (s .sizes)) (s .codes) (s .floats) x
 
--- the frames of block x, and the end poses
+-- the frames of block x, and the end poses, each followed by its chain's tool if it has one
 unfoldable pub framePositions : SheetLists → List Float → List Float
 framePositions s x = positionsOf (linksOf (s .sizes)) (posesOn s x)
 
 unfoldable pub frameRotations : SheetLists → List Float → List Float
 frameRotations s x = rotationsOf (linksOf (s .sizes)) (posesOn s x)
 
-unfoldable pub endPoses : SheetLists → List Float → List Float
-endPoses s x = endsOf (linksOf (s .sizes)) (posesOn s x)
+unfoldable pub endPoses : SheetLists → List Float → List Float → List Float
+endPoses s tools x = endsOf (linksOf (s .sizes)) tools (posesOn s x)
 
 -- update: the new block, then the first three of the old; the fourth is dropped
 unfoldable pub updatedBlocks : List Float → List Float → List Float

@@ -55,9 +55,9 @@ pub frame-rotations-length : (ns : List ℕ) (P : ℕ → Pose) → length (rota
 unfolding rotationsOf
 frame-rotations-length ns P = rotations-length ns P (length ns) ∙ omega (arith, rotations-sum ns, chain-start-total ns)
 
-pub end-poses-length : (ns : List ℕ) (P : ℕ → Pose) → length (endsOf ns P) ≡ endsLength ns
+pub end-poses-length : (ns : List ℕ) (tools : List Float) (P : ℕ → Pose) → length (endsOf ns tools P) ≡ endsLength ns
 unfolding endsOf endsLength
-end-poses-length ns P = length-runs (chainEnd ns P) 7 (end-length ns P) 0 (length ns) ∙ omega arith
+end-poses-length ns tools P = length-runs (chainEnd ns tools P) 7 (end-length ns tools P) 0 (length ns) ∙ omega arith
 
 -- what an accepted call wrote at the front of a list
 pub made : {A : Type 0} (r : ℕ) (xs ys zs : List A) (n : ℕ) → r ≡ 0 → ys ≡ ifTaken r xs (splice xs 0 zs) → length zs ≡ n → n ≤ length ys → Front zs ys n

@@ -4,3 +4,4 @@ pub mod Blocks
 pub mod Numbers
 pub mod Ragged
 pub mod Planned
+pub mod Tools

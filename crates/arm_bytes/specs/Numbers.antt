@@ -6,11 +6,11 @@ use lib.Ieee.{Float}
 use Rattle.refusals.specs.Lengths.{endsLength, historyLength, valueLength, planLength}
 use Rattle.refusals.specs.Lowest.{firstOf, first-assoc}
 use Rattle.refusals.specs.Refusal.{chainsOf, linksOf, sizingRefusal, blockRefusal, historyRefusal, roomRefusal}
-use Rattle.refusals.specs.Rows.{Row, firstRow, upFrom, IsLowest, lowest-row, loadRows, sizingRows, blockRow, historyRow, goalsRow, roomRow, history-row, goals-row, room-row, load-row, load-lowest, sizing-row, alone}
+use Rattle.refusals.specs.Rows.{Row, firstRow, upFrom, IsLowest, lowest-row, loadRows, sizingRows, blockRow, historyRow, goalsRow, roomRow, toolRow, toolsRow, history-row, goals-row, tool-row, tools-row, load-row, load-lowest, sizing-row, alone}
 use Rattle.calls.specs.Frames.{poseRefusal}
-use Rattle.calls.specs.Rows.{framesRows, poseRows, room-alone, block-then, frames-rows, pose-rows}
+use Rattle.calls.specs.Rows.{framesRows, room-alone, block-then, room-then, frames-rows}
 use Rattle.lent_bytes.specs.SheetLists.{SheetLists}
-use Rattle.arm_bytes.specs.ArmCalls.{loadNumber, sizingNumber, setGoalsNumber, framesNumber, poseNumber, updateNumber, resetNumber, manipulabilityNumber}
+use Rattle.arm_bytes.specs.ArmCalls.{loadNumber, sizingNumber, setGoalsNumber, setToolNumber, toolsNumber, framesNumber, poseNumber, updateNumber, resetNumber, manipulabilityNumber}
 
 -- a history's number before others
 pub history-then : (cs : List ℕ) (h : List Float) (k : ℕ) (rs : List Row) → k ≡ firstRow rs → firstOf (historyRefusal cs h) k ≡ firstRow (historyRow cs h ∷ rs)
@@ -44,9 +44,22 @@ module _ (s : SheetLists) where
   unfolding framesNumber upFrom
   frames-number-lowest x p r = lowest-row _ _ refl (after-load _ _ (frames-rows (linksOf (s .sizes)) (s .codes) x p r))
 
-  pub pose-number-lowest : (x : List Float) (n : ℕ) → IsLowest (sheetRows ++ poseRows (linksOf (s .sizes)) (s .codes) x n) (poseNumber s x n)
-  unfolding poseNumber upFrom
-  pose-number-lowest x n = lowest-row _ _ refl (after-load _ _ (pose-rows (linksOf (s .sizes)) (s .codes) x n))
+  -- the last of the tools' own
+  tools-last : (tools : List Float) → toolsNumber s tools ≡ firstRow (toolsRow (chainsOf (s .sizes)) tools ∷ [])
+  tools-last tools = alone _ _ (tools-row (chainsOf (s .sizes)) tools [])
+
+  pub set-tool-number : (tool : List Float) (c : ℕ) → IsLowest (sheetRows ++ (toolRow (chainsOf (s .sizes)) c tool ∷ [])) (setToolNumber s tool c)
+  unfolding setToolNumber upFrom
+  set-tool-number tool c = lowest-row _ _ refl (after-load _ _ (alone _ _ (tool-row (chainsOf (s .sizes)) c tool [])))
+
+  pub pose-number-lowest : (tools x : List Float) (n : ℕ)
+      → IsLowest
+      (sheetRows ++ (blockRow (s .codes) x ∷ roomRow (endsLength (linksOf (s .sizes))) n ∷ toolsRow (chainsOf (s .sizes)) tools ∷ []))
+      (poseNumber s tools x n)
+  unfolding poseNumber poseRefusal upFrom
+  pose-number-lowest tools x n =
+      lowest-row _ _ refl
+      (after-load _ _ (first-assoc _ _ _ ∙ block-then (s .codes) x _ _ (room-then (endsLength (linksOf (s .sizes))) n _ _ (tools-last tools))))
 
   pub update-number-lowest : (history x : List Float) (n : ℕ)
       → IsLowest
@@ -60,19 +73,17 @@ module _ (s : SheetLists) where
       (first-assoc (blockRefusal cs x) (historyRefusal cs history) (roomRefusal (historyLength cs) n)
       ∙ block-then cs x _ _ (history-then cs history _ _ (room-alone (historyLength cs) n))))
 
-  pub reset-number-lowest : (x : List Float) (h n : ℕ)
+  pub reset-number-lowest : (tools x : List Float) (h n : ℕ)
       → IsLowest
-      (sheetRows ++ (blockRow (s .codes) x ∷ roomRow (endsLength (linksOf (s .sizes))) n ∷ roomRow (historyLength (s .codes)) h ∷ []))
-      (resetNumber s x h n)
+      (sheetRows ++ (blockRow (s .codes) x ∷ roomRow (endsLength (linksOf (s .sizes))) n ∷ roomRow (historyLength (s .codes)) h ∷ toolsRow (chainsOf (s .sizes)) tools ∷ []))
+      (resetNumber s tools x h n)
   unfolding resetNumber poseRefusal upFrom
-  reset-number-lowest x h n =
-      let cs = s .codes in
-      let all = historyLength cs in
+  reset-number-lowest tools x h n =
       let ends = endsLength (linksOf (s .sizes)) in
       lowest-row _ _ refl
       (after-load _ _
-      (first-assoc (blockRefusal cs x) (roomRefusal ends n) (roomRefusal all h)
-      ∙ block-then cs x _ _ (ap (firstOf (roomRefusal ends n)) (room-alone all h) ∙ room-row ends n (roomRow all h ∷ []))))
+      (first-assoc _ _ _ ∙ first-assoc _ _ _
+      ∙ block-then (s .codes) x _ _ (room-then ends n _ _ (room-then (historyLength (s .codes)) h _ _ (tools-last tools)))))
 
   pub manipulability-number-lowest : (x : List Float) (n : ℕ)
       → IsLowest (sheetRows ++ (blockRow (s .codes) x ∷ roomRow valueLength n ∷ [])) (manipulabilityNumber s x n)

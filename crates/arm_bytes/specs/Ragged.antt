@@ -164,17 +164,17 @@ module _ (s : SheetLists) (e : loadNumber s ≡ 0) where
     unfolding framesNumber framesRefusal
     frames-ragged-joints p r = after _ _ _ 6 e seven
 
-    pub pose-ragged-joints : (n : ℕ) → poseNumber s (floatsIn 16 b) n ≡ 7
+    pub pose-ragged-joints : (tools : List Float) (n : ℕ) → poseNumber s tools (floatsIn 16 b) n ≡ 7
     unfolding poseNumber poseRefusal
-    pose-ragged-joints n = after _ _ _ 6 e seven
+    pose-ragged-joints tools n = after _ _ _ 6 e (first-is _ _ 6 seven)
 
     pub manipulability-ragged-joints : (n : ℕ) → manipulabilityNumber s (floatsIn 16 b) n ≡ 7
     unfolding manipulabilityNumber
     manipulability-ragged-joints n = after _ _ _ 6 e seven
 
-    pub reset-ragged-joints : (h n : ℕ) → resetNumber s (floatsIn 16 b) h n ≡ 7
+    pub reset-ragged-joints : (tools : List Float) (h n : ℕ) → resetNumber s tools (floatsIn 16 b) h n ≡ 7
     unfolding resetNumber poseRefusal
-    reset-ragged-joints h n = after _ _ _ 6 e (first-is _ _ 6 seven)
+    reset-ragged-joints tools h n = after _ _ _ 6 e (first-is _ _ 6 (first-is _ _ 6 seven))
 
     pub update-ragged-joints : (history : List Float) (n : ℕ) → updateNumber s history (floatsIn 16 b) n ≡ 7
     unfolding updateNumber
@@ -194,19 +194,20 @@ module _ (s : SheetLists) (e : loadNumber s ≡ 0) where
     unfolding framesNumber framesRefusal
     frames-ragged-rotations p = first-zero _ _ e ∙ first-zero _ _ q ∙ room-behind _ p _ (ragged-output _ n (omega (arith, chained, rotations-sum (linksOf (s .sizes)))) m)
 
-    pub pose-ragged-ends : poseNumber s x (roomIn n) ≡ 9
+    pub pose-ragged-ends : (tools : List Float) → poseNumber s tools x (roomIn n) ≡ 9
     unfolding poseNumber poseRefusal endsLength
-    pose-ragged-ends = first-zero _ _ e ∙ first-zero _ _ q ∙ ragged-output _ n (omega (arith, chained)) m
+    pose-ragged-ends tools = after _ _ _ 8 e (first-zero _ _ q ∙ ragged-output _ n (omega (arith, chained)) m)
 
-    pub reset-ragged-ends : (h : ℕ) → resetNumber s x h (roomIn n) ≡ 9
+    pub reset-ragged-ends : (tools : List Float) (h : ℕ) → resetNumber s tools x h (roomIn n) ≡ 9
     unfolding resetNumber poseRefusal endsLength
-    reset-ragged-ends h = after _ _ _ 8 e (first-zero _ _ q ∙ ragged-output _ n (omega (arith, chained)) m)
+    reset-ragged-ends tools h = after _ _ _ 8 e (first-is _ _ 8 (first-zero _ _ q ∙ ragged-output _ n (omega (arith, chained)) m))
 
-    pub reset-ragged-history : (k : ℕ) → resetNumber s x (roomIn n) k ≡ 9
+    pub reset-ragged-history : (tools : List Float) (k : ℕ) → resetNumber s tools x (roomIn n) k ≡ 9
     unfolding resetNumber poseRefusal
-    reset-ragged-history k =
-        first-zero _ _ e ∙ ap (λ (i : ℕ). firstOf i (roomRefusal (historyLength (s .codes)) (roomIn n))) (first-zero _ _ q)
-        ∙ room-behind _ k _ (ragged-output _ n (omega (arith, moving)) m)
+    reset-ragged-history tools k =
+        after _ _ _ 8 e
+        (ap (λ (i : ℕ). firstOf i (roomRefusal (historyLength (s .codes)) (roomIn n))) (first-zero _ _ q)
+        ∙ room-behind _ k _ (ragged-output _ n (omega (arith, moving)) m))
 
     pub update-ragged-output : (history : List Float) → historyRefusal (s .codes) history ≡ 0 → updateNumber s history x (roomIn n) ≡ 9
     unfolding updateNumber

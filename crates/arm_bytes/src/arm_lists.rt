@@ -1,4 +1,5 @@
 // What the byte calls on an arm sheet do once their lists are decoded; outputs are bytes.
+use crate::tools::tools_number;
 use calls::answer;
 use calls::frames;
 use calls::measure;
@@ -19,7 +20,7 @@ ghost use Rattle.refusals.specs.Refusal.{roomRefusal};
 ghost use Rattle.lists.specs.Lent.{lent};
 ghost use Rattle.lent_bytes.specs.SheetLists.{sheetOf, roomOf, numberRoomOf};
 ghost use Rattle.sizing.specs.Sizing.{planList, Small};
-ghost use Rattle.arm_bytes.specs.ArmCalls.{sizingNumber, setGoalsNumber, framesNumber, poseNumber, updateNumber, resetNumber, manipulabilityNumber};
+ghost use Rattle.arm_bytes.specs.ArmCalls.{sizingNumber, setGoalsNumber, setToolNumber, framesNumber, poseNumber, updateNumber, resetNumber, manipulabilityNumber};
 ghost use Rattle.arm_bytes.specs.ArmCalls.{planNumbers, framePositions, frameRotations, endPoses, updatedBlocks, resetBlocks, manipulabilityValue, outputOf, numbersOutputOf};
 
 // The bytes of a plan, its four numbers as u16s, where there is room.
@@ -62,6 +63,23 @@ pub fn set_goals(sizes: &[u16], codes: &[u16], floats: &[f64], limits: &[f64], g
     lent::goals_refusal(sizes[0] as usize, goals)
 }
 
+pub fn set_tool(
+    sizes: &[u16],
+    codes: &[u16],
+    floats: &[f64],
+    limits: &[f64],
+    tool: &[f64],
+    chain: usize,
+) -> u16
+    ensures { λ r. ⌜ r ≡ setToolNumber (sheetOf sizes codes floats limits) (lent tool) chain ⌝ }
+{
+    let load = load::load_refusal(sizes, codes, floats, limits);
+    if load != 0 {
+        return load;
+    }
+    refusals::tools::tool_refusal(sizes[0] as usize, chain, tool)
+}
+
 // The walk goes into lists with room for every sheet, so that only the block can be refused there; then the outputs' rooms are seen to.
 pub fn frames(
     sizes: &[u16],
@@ -102,11 +120,12 @@ pub fn pose(
     codes: &[u16],
     floats: &[f64],
     limits: &[f64],
+    tools: &[f64; 32],
     joints: &[f64],
     ends: &mut [u8],
 ) -> u16
-    ensures number { λ r. ⌜ r ≡ poseNumber (sheetOf sizes codes floats limits) (lent joints) (roomOf ends) ⌝ }
-    ensures ends { λ r. ⌜ now (ends .exit) ≡ outputOf r ends (endPoses (sheetOf sizes codes floats limits) (lent joints)) ⌝ }
+    ensures number { λ r. ⌜ r ≡ poseNumber (sheetOf sizes codes floats limits) (lent tools) (lent joints) (roomOf ends) ⌝ }
+    ensures ends { λ r. ⌜ now (ends .exit) ≡ outputOf r ends (endPoses (sheetOf sizes codes floats limits) (lent tools) (lent joints)) ⌝ }
 {
     let load = load::load_refusal(sizes, codes, floats, limits);
     if load != 0 {
@@ -114,10 +133,11 @@ pub fn pose(
     }
     let counts = shape::links(sizes);
     let mut p = [0.0; 28];
-    let seven = frames::pose(counts, codes, floats, joints, &mut p);
+    let seven = frames::pose(counts, codes, floats, tools, joints, &mut p);
     let np = lengths::ends_length(counts);
     let nine = lent::room_refusal(np, bytes_lent::room(ends.len()));
-    let number = lent::first_of(seven, nine);
+    let eleven = tools_number(sizes, tools);
+    let number = lent::first_of(lent::first_of(seven, nine), eleven);
     if number != 0 {
         return number;
     }
@@ -174,13 +194,14 @@ pub fn reset(
     codes: &[u16],
     floats: &[f64],
     limits: &[f64],
+    tools: &[f64; 32],
     joints: &[f64],
     history: &mut [u8],
     ends: &mut [u8],
 ) -> u16
-    ensures number { λ r. ⌜ r ≡ resetNumber (sheetOf sizes codes floats limits) (lent joints) (roomOf history) (roomOf ends) ⌝ }
+    ensures number { λ r. ⌜ r ≡ resetNumber (sheetOf sizes codes floats limits) (lent tools) (lent joints) (roomOf history) (roomOf ends) ⌝ }
     ensures history { λ r. ⌜ now (history .exit) ≡ outputOf r history (resetBlocks (lent joints)) ⌝ }
-    ensures ends { λ r. ⌜ now (ends .exit) ≡ outputOf r ends (endPoses (sheetOf sizes codes floats limits) (lent joints)) ⌝ }
+    ensures ends { λ r. ⌜ now (ends .exit) ≡ outputOf r ends (endPoses (sheetOf sizes codes floats limits) (lent tools) (lent joints)) ⌝ }
 {
     let load = load::load_refusal(sizes, codes, floats, limits);
     if load != 0 {
@@ -188,14 +209,16 @@ pub fn reset(
     }
     let counts = shape::links(sizes);
     let mut p = [0.0; 28];
-    let seven = frames::pose(counts, codes, floats, joints, &mut p);
+    let seven = frames::pose(counts, codes, floats, tools, joints, &mut p);
     let np = lengths::ends_length(counts);
     let first = lent::room_refusal(np, bytes_lent::room(ends.len()));
     let second = lent::room_refusal(
         lengths::history_length(codes),
         bytes_lent::room(history.len()),
     );
-    let number = lent::first_of(lent::first_of(seven, first), second);
+    let eleven = tools_number(sizes, tools);
+    let nine = lent::first_of(lent::first_of(seven, first), second);
+    let number = lent::first_of(nine, eleven);
     if number != 0 {
         return number;
     }

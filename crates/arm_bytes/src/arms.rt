@@ -2,9 +2,11 @@
 use crate::arm_lists;
 use lent_bytes::lent;
 use lent_bytes::sheet_lists;
+use lent_bytes::tool_lists;
 ghost use mathlib.Core.Path.{_≡_};
 ghost use Rattle.lent_bytes.specs.SheetLists.{sizesIn, codesIn, linkFloatsIn, sheetIn, blockIn, goalsIn, historyIn, roomOf, numberRoomOf};
-ghost use Rattle.arm_bytes.specs.ArmCalls.{loadNumber, sizingNumber, planNumbers, setGoalsNumber, framesNumber, poseNumber, updateNumber, resetNumber};
+ghost use Rattle.lent_bytes.specs.ToolLists.{toolFloatsIn, toolsIn};
+ghost use Rattle.arm_bytes.specs.ArmCalls.{loadNumber, sizingNumber, planNumbers, setGoalsNumber, setToolNumber, framesNumber, poseNumber, updateNumber, resetNumber};
 ghost use Rattle.arm_bytes.specs.ArmCalls.{manipulabilityNumber, framePositions, frameRotations, endPoses, updatedBlocks, resetBlocks};
 ghost use Rattle.arm_bytes.specs.ArmCalls.{manipulabilityValue, outputOf, numbersOutputOf};
 
@@ -65,6 +67,38 @@ pub fn set_goals(sizes: &[u8], codes: &[u8], floats: &[u8], limits: &[u8], goals
     arm_lists::set_goals(&s[..ns], &c[..nc], &f[..nf], &l[..nl], &g[..ng]) as u32
 }
 
+// Looks at a tool for a chain of the sheet.
+pub fn set_tool(
+    sizes: &[u8],
+    codes: &[u8],
+    floats: &[u8],
+    limits: &[u8],
+    tool: &[u8],
+    chain: u32,
+) -> u32
+    ensures { λ r. ⌜ r ≡ setToolNumber (sheetIn sizes codes floats limits) (toolFloatsIn tool) chain ⌝ }
+{
+    let mut s = [0u16; 5];
+    let mut c = [0u16; 64];
+    let mut f = [0.0; 448];
+    let mut l = [0.0; 32];
+    let mut t = [0.0; 7];
+    let n = sheet_lists::decode(sizes, codes, floats, limits, &mut s, &mut c, &mut f, &mut l);
+    let ns = n.sizes;
+    let nc = n.codes;
+    let nf = n.floats;
+    let nl = n.limits;
+    let nt = lent::floats(tool, &mut t);
+    arm_lists::set_tool(
+        &s[..ns],
+        &c[..nc],
+        &f[..nf],
+        &l[..nl],
+        &t[..nt],
+        chain as usize,
+    ) as u32
+}
+
 pub fn frames(
     sizes: &[u8],
     codes: &[u8],
@@ -105,11 +139,15 @@ pub fn pose(
     codes: &[u8],
     floats: &[u8],
     limits: &[u8],
+    tool0: &[u8],
+    tool1: &[u8],
+    tool2: &[u8],
+    tool3: &[u8],
     joints: &[u8],
     ends: &mut [u8],
 ) -> u32
-    ensures number { λ r. ⌜ r ≡ poseNumber (sheetIn sizes codes floats limits) (blockIn joints) (roomOf ends) ⌝ }
-    ensures ends { λ r. ⌜ now (ends .exit) ≡ outputOf r ends (endPoses (sheetIn sizes codes floats limits) (blockIn joints)) ⌝ }
+    ensures number { λ r. ⌜ r ≡ poseNumber (sheetIn sizes codes floats limits) (toolsIn tool0 tool1 tool2 tool3) (blockIn joints) (roomOf ends) ⌝ }
+    ensures ends { λ r. ⌜ now (ends .exit) ≡ outputOf r ends (endPoses (sheetIn sizes codes floats limits) (toolsIn tool0 tool1 tool2 tool3) (blockIn joints)) ⌝ }
 {
     let mut s = [0u16; 5];
     let mut c = [0u16; 64];
@@ -122,7 +160,8 @@ pub fn pose(
     let nf = n.floats;
     let nl = n.limits;
     let nx = lent::floats(joints, &mut x);
-    arm_lists::pose(&s[..ns], &c[..nc], &f[..nf], &l[..nl], &x[..nx], ends) as u32
+    let t = tool_lists::decode(tool0, tool1, tool2, tool3);
+    arm_lists::pose(&s[..ns], &c[..nc], &f[..nf], &l[..nl], &t, &x[..nx], ends) as u32
 }
 
 pub fn reset(
@@ -130,13 +169,17 @@ pub fn reset(
     codes: &[u8],
     floats: &[u8],
     limits: &[u8],
+    tool0: &[u8],
+    tool1: &[u8],
+    tool2: &[u8],
+    tool3: &[u8],
     joints: &[u8],
     history: &mut [u8],
     ends: &mut [u8],
 ) -> u32
-    ensures number { λ r. ⌜ r ≡ resetNumber (sheetIn sizes codes floats limits) (blockIn joints) (roomOf history) (roomOf ends) ⌝ }
+    ensures number { λ r. ⌜ r ≡ resetNumber (sheetIn sizes codes floats limits) (toolsIn tool0 tool1 tool2 tool3) (blockIn joints) (roomOf history) (roomOf ends) ⌝ }
     ensures history { λ r. ⌜ now (history .exit) ≡ outputOf r history (resetBlocks (blockIn joints)) ⌝ }
-    ensures ends { λ r. ⌜ now (ends .exit) ≡ outputOf r ends (endPoses (sheetIn sizes codes floats limits) (blockIn joints)) ⌝ }
+    ensures ends { λ r. ⌜ now (ends .exit) ≡ outputOf r ends (endPoses (sheetIn sizes codes floats limits) (toolsIn tool0 tool1 tool2 tool3) (blockIn joints)) ⌝ }
 {
     let mut s = [0u16; 5];
     let mut c = [0u16; 64];
@@ -149,11 +192,13 @@ pub fn reset(
     let nf = n.floats;
     let nl = n.limits;
     let nx = lent::floats(joints, &mut x);
+    let t = tool_lists::decode(tool0, tool1, tool2, tool3);
     arm_lists::reset(
         &s[..ns],
         &c[..nc],
         &f[..nf],
         &l[..nl],
+        &t,
         &x[..nx],
         history,
         ends,

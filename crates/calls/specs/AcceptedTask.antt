@@ -19,7 +19,7 @@ use Rattle.objective_master.specs.Call.{TwoJoints}
 use Rattle.gradient.specs.Ready.{Ready}
 use Rattle.calls.specs.Arms.{Accepted, ifTaken, arms-passed, sheet-of}
 
--- an accepted sheet with its floats gs, and the list with its weights, limits, goals and history: all but the joints
+-- an accepted sheet with its floats gs, and the list with its weights, limits, goals, history and tools: all but the joints
 pub record AcceptedTask (ns cs : List ℕ) (task gs : List Float) : Type 0 where
   pub arms : Accepted ns cs gs
   pub paired : Paired ns cs

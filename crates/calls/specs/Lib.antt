@@ -7,3 +7,4 @@ pub mod OneBlock
 pub mod Rows
 pub mod Agree
 pub mod Weights
+pub mod Tools

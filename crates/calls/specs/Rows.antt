@@ -1,12 +1,12 @@
--- The conditions of the calls on lent lists beside the sheet's and the state's: 7, then 9; and how 10 comes behind them.
+-- The conditions of the calls on lent lists beside the sheet's and the state's: 7, then 9; and what comes behind them.
 use mathlib.Core.Path.{_≡_, refl, ap, _∙_}
 use mathlib.Core.List.{List, [], _∷_, _++_}
 use Prim.Native.Nat.{ℕ}
 use lib.Ieee.{Float}
 use Rattle.refusals.specs.Lengths.{positionsLength, rotationsLength, endsLength, scratchLength, slopesLength, recordPosesLength}
 use Rattle.refusals.specs.Lowest.{firstOf, first-assoc}
-use Rattle.refusals.specs.Refusal.{blockRefusal, roomRefusal, weightsRefusal}
-use Rattle.refusals.specs.Rows.{Row, firstRow, blockRow, roomRow, weightsRow, block-row, room-row, weights-row, alone}
+use Rattle.refusals.specs.Refusal.{blockRefusal, roomRefusal}
+use Rattle.refusals.specs.Rows.{Row, firstRow, blockRow, roomRow, block-row, room-row, alone}
 use Rattle.one_block.specs.Record.{entriesOf}
 use Rattle.calls.specs.Frames.{framesRefusal, poseRefusal}
 use Rattle.calls.specs.AcceptedTask.{slopesRefusal}
@@ -29,15 +29,12 @@ oneBlockRows ns cs x slopes recordJoints recordLinks recordPoses =
     blockRow cs x ∷ roomRow (slopesLength cs) slopes ∷ recordRows (entriesOf ns cs) recordJoints recordLinks recordPoses
 
 -- ---- laws
--- a block's number alone, a room's, and that of weights
+-- a block's number alone, and a room's
 pub block-alone : (cs : List ℕ) (x : List Float) → blockRefusal cs x ≡ firstRow (blockRow cs x ∷ [])
 block-alone cs x = alone _ _ (block-row cs x [])
 
 pub room-alone : (needed have : ℕ) → roomRefusal needed have ≡ firstRow (roomRow needed have ∷ [])
 room-alone needed have = alone _ _ (room-row needed have [])
-
-pub weights-alone : (ws : List Float) → weightsRefusal ws ≡ firstRow (weightsRow ws ∷ [])
-weights-alone ws = alone _ _ (weights-row ws [])
 
 -- a block's number, a room's and a record's, and what comes behind it
 pub block-then : (cs : List ℕ) (x : List Float) (n : ℕ) (rs : List Row) → n ≡ firstRow rs → firstOf (blockRefusal cs x) n ≡ firstRow (blockRow cs x ∷ rs)

@@ -18,6 +18,7 @@ builtIn g =
       xopt = g .xopt;
       «prev_state» = g .«prev_state»;
       «prev_state2» = g .«prev_state2»;
+      tools = g .tools;
     }
 
 -- ---- laws

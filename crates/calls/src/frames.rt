@@ -4,7 +4,7 @@ use refusals::lent;
 use spacetime::arm;
 use spacetime::frames;
 ghost use mathlib.Core.Path.{_≡_};
-ghost use Prim.Native.Nat.{_≤_};
+ghost use Prim.Native.Nat.{_*_, _≤_};
 ghost use lib.ListN.{length};
 ghost use Rattle.lists.specs.Splice.{splice};
 ghost use Rattle.sheet.specs.Chain.{total};
@@ -66,11 +66,19 @@ fn pose_refusal(counts: &[u16], codes: &[u16], block: &[f64], room: usize) -> u1
     )
 }
 
-pub fn pose(counts: &[u16], codes: &[u16], floats: &[f64], block: &[f64], ends: &mut [f64]) -> u16
-    requires { ⌜ Accepted (now counts) (now codes) (now floats) ⌝ }
+// The end poses, each its chain's last frame followed by the chain's tool if it has one.
+pub fn pose(
+    counts: &[u16],
+    codes: &[u16],
+    floats: &[f64],
+    tools: &[f64],
+    block: &[f64],
+    ends: &mut [f64],
+) -> u16
+    requires { ⌜ Accepted (now counts) (now codes) (now floats) × (8 * length (now counts) ≤ length (now tools)) ⌝ }
     ensures number { λ r. ⌜ r ≡ poseRefusal (now (counts .entry)) (now (codes .entry)) (now (block .entry)) (length (now (ends .entry))) ⌝ }
     ensures ends { λ r. ⌜ now (ends .exit) ≡ ifTaken r (now (ends .entry)) (splice (now (ends .entry)) 0
-        (endsOf (now (counts .entry)) (poseOf (now (counts .entry)) (now (codes .entry)) (now (floats .entry)) (now (block .entry))))) ⌝ }
+        (endsOf (now (counts .entry)) (now (tools .entry)) (poseOf (now (counts .entry)) (now (codes .entry)) (now (floats .entry)) (now (block .entry))))) ⌝ }
 {
     let number = pose_refusal(counts, codes, block, ends.len());
     if number != 0 {
@@ -78,6 +86,6 @@ pub fn pose(counts: &[u16], codes: &[u16], floats: &[f64], block: &[f64], ends: 
     }
     let mut poses = [0.0; 448];
     arm::get_frames_immutable(counts, codes, floats, block, &mut poses);
-    frames::put_ends(counts, &poses, ends);
+    frames::put_ends(counts, tools, &poses, ends);
     0
 }

@@ -2,7 +2,7 @@
 use mathlib.Core.Path.{_≡_, refl}
 use mathlib.Core.Bool.{false}
 use mathlib.Core.List.{List, [], _∷_, _++_, map}
-use Prim.Native.Nat.{ℕ, zero, suc}
+use Prim.Native.Nat.{ℕ, zero, suc, _*_}
 use lib.IntN.{negsuc}
 use lib.Ieee.{Float, nan, fin, binary64, add, sub, mul, div, neg, eq, ne, lt, le, ofInt, ofBits}
 use lib.ListN.{length, replicate}
@@ -17,15 +17,18 @@ use Rattle.geometry.specs.declared.vector.Vec3.{Vec3}
 use Rattle.geometry.specs.declared.quaternion.Quat.{Quat}
 use Rattle.geometry.specs.Vector.{vec, zeroOf, addOf, subOf, scaleOf, dotOf, crossOf, normOf}
 use Rattle.geometry.specs.Quaternion.{quat, productOf, axisOf, twiceOf, rotateOf, identityOf, quatZOf}
+use Rattle.geometry.specs.declared.pose.Pose.{Pose}
 use Rattle.geometry.specs.Pose.{originOf}
 use Rattle.geometry.specs.Segment.{innerOf, endedOf, closestOf, pointOf, distanceOf}
 use Rattle.sheet.specs.Code.{hasJoint, kindOf}
 use Rattle.sheet.specs.Read.{kindAt}
+use Rattle.sheet.specs.Tool.{hasTool}
 use Rattle.sheet.specs.Chain.{firstIn, endIn, total, chainStart, jointsOf, jointOf, joints, chainLength}
 use Rattle.spacetime.specs.Link.{isNone, offsetOf, signedBy, alongOf, turnOf, jointTurn, aboutOf, turnedBy, carriedOf, slideOf, slidOf, movedOf, linkOf}
 use Rattle.spacetime.specs.Floats.{vecAt, quatAt, flatVec, flatQuat, flat}
 use Rattle.spacetime.specs.Walk.{valueOf, afterLink, startOf, beforeOf, poseOf}
-use Rattle.spacetime.specs.Frames.{positionAt, rotationAt, positionsFrom, rotationsFrom, chainPositions, chainRotations, positionsOf, rotationsOf}
+use Rattle.spacetime.specs.Tool.{tipOf}
+use Rattle.spacetime.specs.Frames.{positionAt, rotationAt, positionsFrom, rotationsFrom, chainPositions, chainRotations, positionsOf, rotationsOf, endOf}
 use Rattle.groove.specs.Vars.{resetOf, updateOf}
 use Rattle.groove.specs.Loss.{tenth, grooveLoss, scaledOf, powerOf, bOf, boundsPenalty, swampLoss, freeOf}
 use Rattle.self_collision.specs.Pairs.{pairsFrom, pairsOf, chainPairs, allPairs, chainLengths}
@@ -38,7 +41,7 @@ use Rattle.one_block.specs.Record.{copyOf, recordOf, againOf, jointEntry, linkE
 use Rattle.refusals.specs.Range.{every, between, within, withinAt, squaresOf, nearOne, unitAt}
 use Rattle.refusals.specs.Lowest.{lowestFrom, lowest}
 use Rattle.refusals.specs.Lengths.{positionsLength, rotationsLength}
-use Rattle.refusals.specs.Refusal.{linksFit, badSizes, badLengths, listedKind, listedCode, listedAt, badCodes, twoJoints, laterFits, badJoints, rangedPair, pairFits, limitsFit, badLimits, linkFits, badFloats, loadRefusal, sizingRefusal, jointFits, valueFits, linkValueFits, eight, blockFits, badBlock, blockRefusal, weightFits, weightFitsAt, badWeights, weightsRefusal}
+use Rattle.refusals.specs.Refusal.{linksFit, badSizes, badLengths, listedKind, listedCode, listedAt, badCodes, twoJoints, laterFits, badJoints, rangedPair, pairFits, limitsFit, badLimits, linkFits, badFloats, sevenFit, badTool, toolFits, badTools, toolRefusal, toolsRefusal, loadRefusal, sizingRefusal, jointFits, valueFits, linkValueFits, eight, blockFits, badBlock, blockRefusal, weightFits, weightFitsAt, badWeights, weightsRefusal}
 
 -- the point z above the origin, and the rotation that does not turn, as floats
 abbrev high : Float → List Float
@@ -71,9 +74,27 @@ free = neg (ofBits binary64 0x408f_3800_0000_0000) ∷ ofBits binary64 0x408f_38
 abbrev thousand : Float
 thousand = ofBits binary64 0x408f_4000_0000_0000
 
+abbrev three : Float
+three = ofBits binary64 0x4008_0000_0000_0000
+
+-- a pose at height z, not turned
+abbrev straight : Float → Pose
+straight z = record { position = vec nought nought z; rotation = quat one nought nought nought }
+
+-- no tool for n chains, and a tool for one
+abbrev bare : ℕ → List Float
+bare n = replicate (8 * n) nought
+
+abbrev tool : List Float → List Float
+tool floats = one ∷ floats
+
 -- a robot of one chain of two links
 abbrev pair : List ℕ
 pair = 2 ∷ []
+
+-- two links that stay where they are, the second turned half round z
+abbrev half-turn : ℕ → Pose
+half-turn = poseOf pair (30 ∷ 30 ∷ []) (link (vec nought nought nought) (quat one nought nought nought) ++ link (vec nought nought nought) (quat nought nought nought one)) (nought ∷ nought ∷ [])
 
 abbrev quarter : Float
 quarter = ofBits binary64 0x3fd0_0000_0000_0000
@@ -142,6 +163,26 @@ pub record Cases : Type 0 where
   pub weights-above : weightsRefusal (ofBits binary64 0x408f_4000_0000_0001 ∷ replicate 7 one) ≡ 10
   pub weights-below : weightsRefusal (ofBits binary64 0x8000_0000_0000_0001 ∷ replicate 7 one) ≡ 10
   pub weights-nan : weightsRefusal (nan ∷ replicate 7 one) ≡ 10
+  -- two revolute links up 1, joints 0: the end at z = 2 without a tool, at z = 3 with one that is up 1
+  pub end-bare : endOf pair (bare 1) (poseOf pair (13 ∷ 13 ∷ []) (up ++ up) (nought ∷ nought ∷ [])) 0 ≡ straight two
+  pub end-up : endOf pair (tool up) (poseOf pair (13 ∷ 13 ∷ []) (up ++ up) (nought ∷ nought ∷ [])) 0 ≡ straight three
+  -- an end turned half round z, a tool of displacement (0,1,0) and offset (0,1,0,0): y = -1, as the last frame turns it, and a half turn round y
+  pub end-turned : endOf pair (tool (link (vec nought one nought) (quat nought one nought nought))) half-turn 0 .position .y ≡ neg one
+  pub end-offset : endOf pair (tool (link (vec nought one nought) (quat nought one nought nought))) half-turn 0 .rotation .j ≡ one
+  -- an offset (-1,0,0,0) is skipped
+  pub end-skipped : endOf pair (tool (link (vec nought one nought) (quat (neg one) nought nought nought))) half-turn 0 .rotation ≡ quat nought nought nought one
+  -- a tool for a chain that is loaded is taken; for one that is not, of no, six or eight floats, the next float beyond 10 or a NaN it is refused
+  pub tool-taken : toolRefusal 1 0 up ≡ 0
+  pub tool-unloaded : toolRefusal 1 1 up ≡ 11
+  pub tool-none : toolRefusal 1 0 [] ≡ 11
+  pub tool-six : toolRefusal 1 0 (replicate 6 nought) ≡ 11
+  pub tool-eight : toolRefusal 1 0 (up ++ (nought ∷ [])) ≡ 11
+  pub tool-far : toolRefusal 1 0 (link (vec (ofBits binary64 0x4024_0000_0000_0001) nought nought) (quat one nought nought nought)) ≡ 11
+  pub tool-nan : toolRefusal 1 0 (link (vec nought nought nan) (quat one nought nought nought)) ≡ 11
+  -- four chains' tools: none at all, one for chain 0, and one for chain 1 of a robot of one chain
+  pub tools-none : toolsRefusal 1 (bare 4) ≡ 0
+  pub tools-first : toolsRefusal 1 (tool up ++ bare 3) ≡ 0
+  pub tools-unloaded : toolsRefusal 1 (bare 1 ++ (tool up ++ bare 2)) ≡ 11
   -- each kind has its own: position, rotation, limits, velocity, acceleration, jerk, manipulability, pairs
   pub weights-by-kind : (p r l v a j m c : Float) → map (weightOf (p ∷ r ∷ l ∷ v ∷ a ∷ j ∷ m ∷ c ∷ []))
       (MatchEEPosiDoF 0 0 ∷ MatchEERotaDoF 0 0 ∷ EachJointLimits 0 ∷ MinimizeVelocity ∷ MinimizeAcceleration ∷ MinimizeJerk ∷ MaximizeManipulability ∷ SelfCollision 0 0 0 ∷ [])
@@ -156,7 +197,7 @@ poses-walked gs x = refl
 
 -- All of them, by computing both sides.
 pub cases : Cases
-unfolding recordJoints recordLinks recordOf againOf jointEntry linkEntry againAt againBelow entriesOf endIn objectives goalObjectives limitObjective motionObjectives pairObjective allPairs chainPairs pairsOf pairsFrom grooveLoss swampLoss scaledOf boundsPenalty powerOf bOf power20Of squarings expOf expSeriesOf expTermOf positionsOf rotationsOf chainPositions chainRotations positionsFrom rotationsFrom positionAt rotationAt runs poseOf beforeOf startOf afterLink valueOf linkOf isNone offsetOf signedBy alongOf turnOf jointTurn aboutOf turnedBy carriedOf slideOf slidOf movedOf vecAt quatAt flatVec flatQuat firstIn total chainStart hasJoint jointsOf jointOf joints kindAt kindOf originOf zeroOf identityOf productOf axisOf twiceOf rotateOf quatZOf sineOf cosineOf seriesOf termOf sineDivisor cosineDivisor downFrom rootOf distanceOf pointOf closestOf endedOf innerOf addOf subOf scaleOf dotOf crossOf normOf cutOf blockRefusal jointFits valueFits linkValueFits blockFits badBlock every between within withinAt squaresOf nearOne unitAt freeOf rangedPair pairFits limitsFit badLimits linkFits badFloats loadRefusal lowest lowestFrom badSizes linksFit badLengths badCodes listedAt listedCode listedKind badJoints twoJoints laterFits chainLength weightsRefusal badWeights weightFitsAt weightFits weightOf kindNumber add sub mul div neg eq ne lt le ofInt ofBits sizingOf plannedIf planOf sizingRefusal positionsLength rotationsLength chainLengths listed
+unfolding recordJoints recordLinks recordOf againOf jointEntry linkEntry againAt againBelow entriesOf endIn objectives goalObjectives limitObjective motionObjectives pairObjective allPairs chainPairs pairsOf pairsFrom grooveLoss swampLoss scaledOf boundsPenalty powerOf bOf power20Of squarings expOf expSeriesOf expTermOf positionsOf rotationsOf chainPositions chainRotations positionsFrom rotationsFrom positionAt rotationAt runs poseOf beforeOf startOf afterLink valueOf linkOf isNone offsetOf signedBy alongOf turnOf jointTurn aboutOf turnedBy carriedOf slideOf slidOf movedOf vecAt quatAt flatVec flatQuat firstIn total chainStart hasJoint jointsOf jointOf joints kindAt kindOf originOf zeroOf identityOf productOf axisOf twiceOf rotateOf quatZOf sineOf cosineOf seriesOf termOf sineDivisor cosineDivisor downFrom rootOf distanceOf pointOf closestOf endedOf innerOf addOf subOf scaleOf dotOf crossOf normOf cutOf blockRefusal jointFits valueFits linkValueFits blockFits badBlock every between within withinAt squaresOf nearOne unitAt freeOf rangedPair pairFits limitsFit badLimits linkFits badFloats loadRefusal lowest lowestFrom badSizes linksFit badLengths badCodes listedAt listedCode listedKind badJoints twoJoints laterFits chainLength weightsRefusal badWeights weightFitsAt weightFits tipOf hasTool sevenFit toolRefusal badTool toolsRefusal badTools toolFits weightOf kindNumber add sub mul div neg eq ne lt le ofInt ofBits sizingOf plannedIf planOf sizingRefusal positionsLength rotationsLength chainLengths listed
 cases = record {
   groove-centre = refl;
   swamp-centre = refl;
@@ -188,5 +229,20 @@ cases = record {
   weights-above = refl;
   weights-below = refl;
   weights-nan = refl;
+  end-bare = refl;
+  end-up = refl;
+  end-turned = refl;
+  end-offset = refl;
+  end-skipped = refl;
+  tool-taken = refl;
+  tool-unloaded = refl;
+  tool-none = refl;
+  tool-six = refl;
+  tool-eight = refl;
+  tool-far = refl;
+  tool-nan = refl;
+  tools-none = refl;
+  tools-first = refl;
+  tools-unloaded = refl;
   weights-by-kind = λ p r l v a j m c. refl;
 }

@@ -2,7 +2,8 @@
 use arm_bytes::arms;
 ghost use mathlib.Core.Path.{_≡_};
 ghost use Rattle.lent_bytes.specs.SheetLists.{sizesIn, codesIn, linkFloatsIn, sheetIn, blockIn, goalsIn, historyIn, roomOf, numberRoomOf};
-ghost use Rattle.arm_bytes.specs.ArmCalls.{loadNumber, sizingNumber, planNumbers, setGoalsNumber, framesNumber, poseNumber, updateNumber, resetNumber};
+ghost use Rattle.lent_bytes.specs.ToolLists.{toolFloatsIn, toolsIn};
+ghost use Rattle.arm_bytes.specs.ArmCalls.{loadNumber, sizingNumber, planNumbers, setGoalsNumber, setToolNumber, framesNumber, poseNumber, updateNumber, resetNumber};
 ghost use Rattle.arm_bytes.specs.ArmCalls.{manipulabilityNumber, framePositions, frameRotations, endPoses, updatedBlocks, resetBlocks};
 ghost use Rattle.arm_bytes.specs.ArmCalls.{manipulabilityValue, outputOf, numbersOutputOf};
 
@@ -40,6 +41,21 @@ pub extern "C" fn relaxed_ik_set_goals(
     arms::set_goals(sizes, codes, floats, limits, goals)
 }
 
+// Seven floats that fit a link, for a chain of the sheet; chains count from 0.
+#[no_mangle]
+pub extern "C" fn relaxed_ik_set_tool(
+    sizes: &[u8],
+    codes: &[u8],
+    floats: &[u8],
+    limits: &[u8],
+    tool: &[u8],
+    chain: u32,
+) -> u32
+    ensures { λ r. ⌜ r ≡ setToolNumber (sheetIn sizes codes floats limits) (toolFloatsIn tool) chain ⌝ }
+{
+    arms::set_tool(sizes, codes, floats, limits, tool, chain)
+}
+
 #[no_mangle]
 pub extern "C" fn relaxed_ik_frames(
     sizes: &[u8],
@@ -57,36 +73,69 @@ pub extern "C" fn relaxed_ik_frames(
     arms::frames(sizes, codes, floats, limits, joints, positions, rotations)
 }
 
+// The tools are by chain, from chain 0 on; a list without a byte is none.
 #[no_mangle]
 pub extern "C" fn relaxed_ik_pose(
     sizes: &[u8],
     codes: &[u8],
     floats: &[u8],
     limits: &[u8],
+    tool0: &[u8],
+    tool1: &[u8],
+    tool2: &[u8],
+    tool3: &[u8],
     joints: &[u8],
     ends: &mut [u8],
 ) -> u32
-    ensures number { λ r. ⌜ r ≡ poseNumber (sheetIn sizes codes floats limits) (blockIn joints) (roomOf ends) ⌝ }
-    ensures ends { λ r. ⌜ now (ends .exit) ≡ outputOf r ends (endPoses (sheetIn sizes codes floats limits) (blockIn joints)) ⌝ }
+    ensures number { λ r. ⌜ r ≡ poseNumber (sheetIn sizes codes floats limits) (toolsIn tool0 tool1 tool2 tool3) (blockIn joints) (roomOf ends) ⌝ }
+    ensures ends { λ r. ⌜ now (ends .exit) ≡ outputOf r ends (endPoses (sheetIn sizes codes floats limits) (toolsIn tool0 tool1 tool2 tool3) (blockIn joints)) ⌝ }
 {
-    arms::pose(sizes, codes, floats, limits, joints, ends)
+    arms::pose(
+        sizes,
+        codes,
+        floats,
+        limits,
+        tool0,
+        tool1,
+        tool2,
+        tool3,
+        joints,
+        ends,
+    )
 }
 
+// The tools are by chain, as for the pose.
 #[no_mangle]
 pub extern "C" fn relaxed_ik_reset(
     sizes: &[u8],
     codes: &[u8],
     floats: &[u8],
     limits: &[u8],
+    tool0: &[u8],
+    tool1: &[u8],
+    tool2: &[u8],
+    tool3: &[u8],
     joints: &[u8],
     history: &mut [u8],
     ends: &mut [u8],
 ) -> u32
-    ensures number { λ r. ⌜ r ≡ resetNumber (sheetIn sizes codes floats limits) (blockIn joints) (roomOf history) (roomOf ends) ⌝ }
+    ensures number { λ r. ⌜ r ≡ resetNumber (sheetIn sizes codes floats limits) (toolsIn tool0 tool1 tool2 tool3) (blockIn joints) (roomOf history) (roomOf ends) ⌝ }
     ensures history { λ r. ⌜ now (history .exit) ≡ outputOf r history (resetBlocks (blockIn joints)) ⌝ }
-    ensures ends { λ r. ⌜ now (ends .exit) ≡ outputOf r ends (endPoses (sheetIn sizes codes floats limits) (blockIn joints)) ⌝ }
+    ensures ends { λ r. ⌜ now (ends .exit) ≡ outputOf r ends (endPoses (sheetIn sizes codes floats limits) (toolsIn tool0 tool1 tool2 tool3) (blockIn joints)) ⌝ }
 {
-    arms::reset(sizes, codes, floats, limits, joints, history, ends)
+    arms::reset(
+        sizes,
+        codes,
+        floats,
+        limits,
+        tool0,
+        tool1,
+        tool2,
+        tool3,
+        joints,
+        history,
+        ends,
+    )
 }
 
 #[no_mangle]

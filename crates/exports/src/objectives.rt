@@ -2,6 +2,7 @@
 use objective_bytes::objectives;
 ghost use mathlib.Core.Path.{_≡_};
 ghost use Rattle.lent_bytes.specs.SheetLists.{sheetIn, blockIn, roomOf};
+ghost use Rattle.lent_bytes.specs.ToolLists.{toolsIn};
 ghost use Rattle.arm_bytes.specs.ArmCalls.{outputOf};
 ghost use Rattle.objective_bytes.specs.ObjectiveCalls.{weightsIn, taskIn, setWeightsNumber, objectiveNumber, slopesNumber, objectiveValue, gradientSlopes, finiteDiffSlopes};
 
@@ -13,6 +14,7 @@ pub extern "C" fn relaxed_ik_set_weights(weights: &[u8]) -> u32
     objectives::set_weights(weights)
 }
 
+// The tools are by chain, from chain 0 on; weights and tools without a byte are none.
 #[no_mangle]
 pub extern "C" fn relaxed_ik_objective(
     sizes: &[u8],
@@ -22,11 +24,15 @@ pub extern "C" fn relaxed_ik_objective(
     goals: &[u8],
     history: &[u8],
     weights: &[u8],
+    tool0: &[u8],
+    tool1: &[u8],
+    tool2: &[u8],
+    tool3: &[u8],
     joints: &[u8],
     value: &mut [u8],
 ) -> u32
-    ensures number { λ r. ⌜ r ≡ objectiveNumber (sheetIn sizes codes floats limits) (taskIn goals history weights) (blockIn joints) (roomOf value) ⌝ }
-    ensures value { λ r. ⌜ now (value .exit) ≡ outputOf r value (objectiveValue (sheetIn sizes codes floats limits) (taskIn goals history weights) (blockIn joints)) ⌝ }
+    ensures number { λ r. ⌜ r ≡ objectiveNumber (sheetIn sizes codes floats limits) (taskIn goals history weights (toolsIn tool0 tool1 tool2 tool3)) (blockIn joints) (roomOf value) ⌝ }
+    ensures value { λ r. ⌜ now (value .exit) ≡ outputOf r value (objectiveValue (sheetIn sizes codes floats limits) (taskIn goals history weights (toolsIn tool0 tool1 tool2 tool3)) (blockIn joints)) ⌝ }
 {
     objectives::objective(
         sizes,
@@ -36,6 +42,10 @@ pub extern "C" fn relaxed_ik_objective(
         goals,
         history,
         weights,
+        tool0,
+        tool1,
+        tool2,
+        tool3,
         joints,
         value,
     )
@@ -51,15 +61,19 @@ pub extern "C" fn relaxed_ik_gradient(
     goals: &[u8],
     history: &[u8],
     weights: &[u8],
+    tool0: &[u8],
+    tool1: &[u8],
+    tool2: &[u8],
+    tool3: &[u8],
     joints: &[u8],
     scratch: &mut [u8],
     value: &mut [u8],
     slopes: &mut [u8],
 ) -> u32
-    ensures number { λ r. ⌜ r ≡ slopesNumber (sheetIn sizes codes floats limits) (taskIn goals history weights) (blockIn joints) (roomOf scratch) (roomOf value) (roomOf slopes) ⌝ }
+    ensures number { λ r. ⌜ r ≡ slopesNumber (sheetIn sizes codes floats limits) (taskIn goals history weights (toolsIn tool0 tool1 tool2 tool3)) (blockIn joints) (roomOf scratch) (roomOf value) (roomOf slopes) ⌝ }
     ensures scratch { λ r. ⌜ now (scratch .exit) ≡ outputOf r scratch (blockIn joints) ⌝ }
-    ensures value { λ r. ⌜ now (value .exit) ≡ outputOf r value (objectiveValue (sheetIn sizes codes floats limits) (taskIn goals history weights) (blockIn joints)) ⌝ }
-    ensures slopes { λ r. ⌜ now (slopes .exit) ≡ outputOf r slopes (gradientSlopes (sheetIn sizes codes floats limits) (taskIn goals history weights) (blockIn joints)) ⌝ }
+    ensures value { λ r. ⌜ now (value .exit) ≡ outputOf r value (objectiveValue (sheetIn sizes codes floats limits) (taskIn goals history weights (toolsIn tool0 tool1 tool2 tool3)) (blockIn joints)) ⌝ }
+    ensures slopes { λ r. ⌜ now (slopes .exit) ≡ outputOf r slopes (gradientSlopes (sheetIn sizes codes floats limits) (taskIn goals history weights (toolsIn tool0 tool1 tool2 tool3)) (blockIn joints)) ⌝ }
 {
     objectives::gradient(
         sizes,
@@ -69,6 +83,10 @@ pub extern "C" fn relaxed_ik_gradient(
         goals,
         history,
         weights,
+        tool0,
+        tool1,
+        tool2,
+        tool3,
         joints,
         scratch,
         value,
@@ -86,15 +104,19 @@ pub extern "C" fn relaxed_ik_gradient_finite_diff(
     goals: &[u8],
     history: &[u8],
     weights: &[u8],
+    tool0: &[u8],
+    tool1: &[u8],
+    tool2: &[u8],
+    tool3: &[u8],
     joints: &[u8],
     scratch: &mut [u8],
     value: &mut [u8],
     slopes: &mut [u8],
 ) -> u32
-    ensures number { λ r. ⌜ r ≡ slopesNumber (sheetIn sizes codes floats limits) (taskIn goals history weights) (blockIn joints) (roomOf scratch) (roomOf value) (roomOf slopes) ⌝ }
+    ensures number { λ r. ⌜ r ≡ slopesNumber (sheetIn sizes codes floats limits) (taskIn goals history weights (toolsIn tool0 tool1 tool2 tool3)) (blockIn joints) (roomOf scratch) (roomOf value) (roomOf slopes) ⌝ }
     ensures scratch { λ r. ⌜ now (scratch .exit) ≡ outputOf r scratch (blockIn joints) ⌝ }
-    ensures value { λ r. ⌜ now (value .exit) ≡ outputOf r value (objectiveValue (sheetIn sizes codes floats limits) (taskIn goals history weights) (blockIn joints)) ⌝ }
-    ensures slopes { λ r. ⌜ now (slopes .exit) ≡ outputOf r slopes (finiteDiffSlopes (sheetIn sizes codes floats limits) (taskIn goals history weights) (blockIn joints)) ⌝ }
+    ensures value { λ r. ⌜ now (value .exit) ≡ outputOf r value (objectiveValue (sheetIn sizes codes floats limits) (taskIn goals history weights (toolsIn tool0 tool1 tool2 tool3)) (blockIn joints)) ⌝ }
+    ensures slopes { λ r. ⌜ now (slopes .exit) ≡ outputOf r slopes (finiteDiffSlopes (sheetIn sizes codes floats limits) (taskIn goals history weights (toolsIn tool0 tool1 tool2 tool3)) (blockIn joints)) ⌝ }
 {
     objectives::gradient_finite_diff(
         sizes,
@@ -104,6 +126,10 @@ pub extern "C" fn relaxed_ik_gradient_finite_diff(
         goals,
         history,
         weights,
+        tool0,
+        tool1,
+        tool2,
+        tool3,
         joints,
         scratch,
         value,

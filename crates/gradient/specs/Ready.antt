@@ -22,7 +22,7 @@ use Rattle.objective_master.specs.Call.{TwoJoints}
 use Rattle.objective_master.specs.Untouched.{cached-at, losses-ext}
 use Rattle.gradient.specs.Gradient.{posesOf, lossesAt, valueAt}
 
--- an accepted sheet with its floats gs, the list with its weights, limits, goals and history, and joints x
+-- an accepted sheet with its floats gs, the list with its weights, limits, goals, history and tools, and joints x
 pub record Ready (ns cs : List ℕ) (task gs x : List Float) : Type 0 where
   pub sheet : Sheet ns cs gs x
   pub chains : Chains ns

@@ -2,3 +2,4 @@ pub mod Bytes
 pub mod Lent
 pub mod Optional
 pub mod SheetLists
+pub mod ToolLists

@@ -4,3 +4,4 @@ pub mod lent;
 pub mod optional;
 pub mod sheet_lists;
 pub mod task_lists;
+pub mod tool_lists;

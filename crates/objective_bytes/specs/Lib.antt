@@ -3,3 +3,4 @@ pub mod ObjectiveLaws
 pub mod Numbers
 pub mod Weights
 pub mod Ragged
+pub mod LeftOut

@@ -1,10 +1,10 @@
--- The byte calls on the objective: their numbers and what they write. They keep no state, so sheet, goals, history and weights are lent each time.
+-- The byte calls on the objective: their numbers and what they write. They keep no state, so sheet, goals, history, weights and tools are lent each time.
 use mathlib.Core.Bool.{not}
 use mathlib.Core.List.{List, [], _∷_}
 use Prim.Native.Nat.{ℕ, _*_}
 use lib.Dec.{eqb}
 use lib.Ieee.{Float}
-use lib.ListN.{length}
+use lib.ListN.{length, take}
 use Rattle.lists.specs.Lent.{LentList, lent}
 use Rattle.sheet.specs.Chain.{joints}
 use Rattle.task.specs.Task.{part, Given}
@@ -17,7 +17,7 @@ use Rattle.gradient.specs.declared.slopes.Rule.{Rule}
 use Rattle.gradient.specs.declared.slopes.Rule.the-variants.{EachLoss, WeightedSum}
 use Rattle.lent_bytes.specs.Lent.{floatsIn}
 use Rattle.lent_bytes.specs.SheetLists.{SheetLists, goalsFrom, historyFrom}
-use Rattle.arm_bytes.specs.ArmCalls.{loadNumber}
+use Rattle.arm_bytes.specs.ArmCalls.{loadNumber, toolsNumber}
 
 -- ---- what the calls are lent beside the sheet and the joints
 -- weights as bytes; a ragged list, and one of more than eight, has no floats, which are not eight
@@ -28,25 +28,26 @@ weightsFrom weights = floatsIn 8 weights
 unfoldable pub inForceFrom : List ℕ → List Float
 inForceFrom weights = inForce (not (eqb (length weights) 0)) (weightsFrom weights)
 
--- goals, a history of four joint blocks, and the weights in force
+-- goals, a history of four joint blocks, the weights in force, and the tools of four chains
 pub record TaskLists : Type 0 where
   pub goals : List Float
   pub history : List Float
   pub weights : List Float
+  pub tools : List Float
 
-abbrev pub taskWith : List Float → List Float → List Float → TaskLists
-taskWith goals history weights = record { goals = goals; history = history; weights = weights }
+abbrev pub taskWith : List Float → List Float → List Float → List Float → TaskLists
+taskWith goals history weights tools = record { goals = goals; history = history; weights = weights; tools = tools }
 
 -- as decoded lists
-abbrev pub taskOf : {X Y Z : Type 0} → LentList Float X → LentList Float Y → LentList Float Z → TaskLists
-taskOf goals history weights = taskWith (lent goals) (lent history) (lent weights)
+abbrev pub taskOf : {X Y Z W : Type 0} → LentList Float X → LentList Float Y → LentList Float Z → LentList Float W → TaskLists
+taskOf goals history weights tools = taskWith (lent goals) (lent history) (lent weights) (lent tools)
 
 -- as bytes
-abbrev pub taskFrom : List ℕ → List ℕ → List ℕ → TaskLists
-taskFrom goals history weights = taskWith (goalsFrom goals) (historyFrom history) (inForceFrom weights)
+abbrev pub taskFrom : List ℕ → List ℕ → List ℕ → List Float → TaskLists
+taskFrom goals history weights tools = taskWith (goalsFrom goals) (historyFrom history) (inForceFrom weights) tools
 
-abbrev pub taskIn : {X Y Z : Type 0} → LentList ℕ X → LentList ℕ Y → LentList ℕ Z → TaskLists
-taskIn goals history weights = taskFrom (lent goals) (lent history) (lent weights)
+abbrev pub taskIn : {X Y Z : Type 0} → LentList ℕ X → LentList ℕ Y → LentList ℕ Z → List Float → TaskLists
+taskIn goals history weights tools = taskFrom (lent goals) (lent history) (lent weights) tools
 
 abbrev pub weightsIn : {X : Type 0} → LentList ℕ X → List Float
 weightsIn weights = weightsFrom (lent weights)
@@ -62,19 +63,23 @@ taskNumber s goals history x =
     firstOf (loadNumber s)
     (firstOf (firstOf (blockRefusal (s .codes) x) (historyRefusal (s .codes) history)) (goalsRefusal (chainsOf (s .sizes)) goals))
 
--- the objective: then 9 for an output without room for one float, then 10
-unfoldable pub objectiveNumber : SheetLists → TaskLists → List Float → ℕ → ℕ
-objectiveNumber s t x value = firstOf (taskNumber s (t .goals) (t .history) x) (firstOf (roomRefusal valueLength value) (weightsRefusal (t .weights)))
+-- the lists that may be left out: 10 for weights, then 11 for tools
+unfoldable pub optionalNumber : SheetLists → TaskLists → ℕ
+optionalNumber s t = firstOf (weightsRefusal (t .weights)) (toolsNumber s (t .tools))
 
--- a gradient: then 9 for any of its outputs, then 10
+-- the objective: then 9 for an output without room for one float, then 10 and 11
+unfoldable pub objectiveNumber : SheetLists → TaskLists → List Float → ℕ → ℕ
+objectiveNumber s t x value = firstOf (taskNumber s (t .goals) (t .history) x) (firstOf (roomRefusal valueLength value) (optionalNumber s t))
+
+-- a gradient: then 9 for any of its outputs, then 10 and 11
 unfoldable pub slopesNumber : SheetLists → TaskLists → List Float → ℕ → ℕ → ℕ → ℕ
 slopesNumber s t x scratch value slopes =
     firstOf (taskNumber s (t .goals) (t .history) x)
     (firstOf (roomRefusal (scratchLength (s .codes)) scratch)
-    (firstOf (roomRefusal valueLength value) (firstOf (roomRefusal (slopesLength (s .codes)) slopes) (weightsRefusal (t .weights)))))
+    (firstOf (roomRefusal valueLength value) (firstOf (roomRefusal (slopesLength (s .codes)) slopes) (optionalNumber s t))))
 
 -- ---- what they write, in floats
--- what the objective is given: of the history its blocks xopt, prev_state and prev_state2; the fourth is not read
+-- what the objective is given: of the history its blocks xopt, prev_state and prev_state2, the fourth is not read; of the tools those of the sheet's chains, as many as are in use
 unfoldable pub givenLent : SheetLists → TaskLists → Given
 givenLent s t =
     record {
@@ -86,6 +91,7 @@ givenLent s t =
       xopt = part 0 (joints (s .codes)) (t .history);
       «prev_state» = part (joints (s .codes)) (joints (s .codes)) (t .history);
       «prev_state2» = part (2 * joints (s .codes)) (joints (s .codes)) (t .history);
+      tools = take (8 * length (linksOf (s .sizes))) (t .tools);
     }
 
 -- the objective's value at block x

@@ -10,7 +10,7 @@ use Rattle.sheet.specs.Chain.{joints}
 use Rattle.task.specs.Task.{part, taskLength, givenOf, part-length}
 use Rattle.task.specs.Laid.{Apart, apartIn, laid, Fit, Full, givenApart, laid-given}
 use Rattle.refusals.specs.Lowest.{first-none}
-use Rattle.refusals.specs.Refusal.{linksOf, weightsRefusal}
+use Rattle.refusals.specs.Refusal.{linksOf}
 use Rattle.refusals.specs.Passed.{load-passed, block-passed, history-passed, goals-passed, weights-passed}
 use Rattle.gradient.specs.Gradient.{slopes-length}
 use Rattle.gradient.specs.Ready.{Ready}
@@ -19,11 +19,11 @@ use Rattle.calls.specs.AcceptedTask.{ready-of, load-task}
 use Rattle.lent_bytes.specs.Lent.{roomIn}
 use Rattle.lent_bytes.specs.SheetLists.{SheetLists, same-two, same-three}
 use Rattle.arm_bytes.specs.ArmLaws.{bytes-fit}
-use Rattle.objective_bytes.specs.ObjectiveCalls.{TaskLists, taskNumber, slopesNumber, givenLent, slopesIn}
+use Rattle.objective_bytes.specs.ObjectiveCalls.{TaskLists, taskNumber, optionalNumber, slopesNumber, givenLent, slopesIn}
 
 -- nothing but an output is left to refuse
 abbrev pub Passed : SheetLists → TaskLists → List Float → Type 0
-Passed s t x = (taskNumber s (t .goals) (t .history) x ≡ 0) × (weightsRefusal (t .weights) ≡ 0)
+Passed s t x = (taskNumber s (t .goals) (t .history) x ≡ 0) × (optionalNumber s t ≡ 0)
 
 -- what a call then knows
 pub record Taken (s : SheetLists) (t : TaskLists) (x : List Float) : Type 0 where
@@ -37,7 +37,7 @@ pub record Taken (s : SheetLists) (t : TaskLists) (x : List Float) : Type 0 wher
   pub ready : (task : List Float) → length task ≡ taskLength → Ready (linksOf (s .sizes)) (s .codes) task (s .floats) x
 
 pub task-taken : (s : SheetLists) (t : TaskLists) (x : List Float) → Passed s t x → Taken s t x
-unfolding taskNumber
+unfolding taskNumber optionalNumber
 task-taken s t x p =
     let a = first-none _ _ (p .0) in
     let b = first-none _ _ (a .1) in
@@ -49,18 +49,18 @@ task-taken s t x p =
       blocks = history-passed (s .codes) (t .history) (d .1);
       pairs = l .1;
       each = goals-passed _ (t .goals) (b .1) ∙ ap (λ (n : ℕ). 13 * n) (sym (l .0 .sized .long));
-      eight = weights-passed (t .weights) (p .1);
+      eight = weights-passed (t .weights) (first-none _ _ (p .1) .0);
       chains = omega (arith, l .0 .sized .long, l .0 .sized .few);
       ready = λ task w. ready-of (linksOf (s .sizes)) (s .codes) task (s .floats) x (load-task (s .sizes) (s .codes) task (s .floats) w (s .limits) (a .0)) (d .0);
     }
 
--- ---- the list that such a call lays
-module _ (s : SheetLists) (t : TaskLists) (x : List Float) (k : Taken s t x) where
+-- ---- the list that such a call lays, of tools for four chains
+module _ (s : SheetLists) (t : TaskLists) (x : List Float) (k : Taken s t x) (four : length (t .tools) ≡ 32) where
   abbrev N : ℕ
   N = joints (s .codes)
 
   abbrev lists : ℕ → Apart
-  lists n = apartIn (t .weights) (s .limits) (t .goals) (t .history) n
+  lists n = apartIn (t .weights) (s .limits) (t .goals) (t .history) (t .tools) n
 
   -- the blocks of the history
   block₀ : length (part 0 N (t .history)) ≡ N
@@ -81,6 +81,7 @@ module _ (s : SheetLists) (t : TaskLists) (x : List Float) (k : Taken s t x) whe
         xopt = omega (arith, block₀, k .few);
         «prev_state» = omega (arith, block₁, k .few);
         «prev_state2» = omega (arith, block₂, k .few);
+        tools = omega (arith, four);
       }
 
   full : Full (linksOf (s .sizes)) (s .codes) (lists N)
@@ -92,9 +93,10 @@ module _ (s : SheetLists) (t : TaskLists) (x : List Float) (k : Taken s t x) whe
         xopt = omega (arith, block₀);
         «prev_state» = omega (arith, block₁);
         «prev_state2» = omega (arith, block₂);
+        tools = omega (arith, four, k .chains);
       }
 
-  -- each list is lent as long as it is in use
+  -- each list but the tools is lent as long as it is in use
   apart-taken : givenApart (linksOf (s .sizes)) (s .codes) (lists N) ≡ givenLent s t
   unfolding givenApart givenLent
   apart-taken =

@@ -1,5 +1,5 @@
 -- A byte list beside the sheet that is ragged, or longer than any that is taken, is refused with that list's number: joints and history 7, goals 8,
--- weights 10; a ragged output 9. Lower numbers come first, as ever.
+-- weights 10, tools 11; a ragged output 9. Lower numbers come first, as ever.
 use mathlib.Core.Path.{_≡_, ap, _∙_}
 use mathlib.Core.List.{List, []}
 use Prim.Native.Nat.{ℕ, suc, _%_}
@@ -16,9 +16,9 @@ use Rattle.refusals.specs.Passed.{room-behind, weights-misfit}
 use Rattle.lent_bytes.specs.Lent.{Misfit, countIn, floatsIn, roomIn, no-floats}
 use Rattle.lent_bytes.specs.Optional.{wrong-length}
 use Rattle.lent_bytes.specs.SheetLists.{SheetLists}
-use Rattle.arm_bytes.specs.ArmCalls.{loadNumber}
+use Rattle.arm_bytes.specs.ArmCalls.{loadNumber, toolsNumber}
 use Rattle.arm_bytes.specs.Ragged.{no-block, no-history, no-goals, after, ragged-output, shape, moving}
-use Rattle.objective_bytes.specs.ObjectiveCalls.{weightsFrom, inForceFrom, TaskLists, setWeightsNumber, taskNumber, objectiveNumber, slopesNumber}
+use Rattle.objective_bytes.specs.ObjectiveCalls.{weightsFrom, inForceFrom, TaskLists, setWeightsNumber, taskNumber, optionalNumber, objectiveNumber, slopesNumber}
 use Rattle.objective_bytes.specs.Weights.{wrong-in-force}
 
 -- a call that is refused with one of 1 to 8
@@ -86,13 +86,23 @@ set-ragged-weights b m = ap weightsRefusal (no-floats 8 b m) ∙ weights-misfit 
 pub ragged-weights : (b : List ℕ) → Misfit 8 8 (length b) → weightsRefusal (inForceFrom b) ≡ 10
 ragged-weights b m = ap weightsRefusal (wrong-in-force b (wrong-length 8 b m)) ∙ set-ragged-weights b m
 
--- weights that are refused, where nothing else is
-module _ (s : SheetLists) (t : TaskLists) (x : List Float) (q : taskNumber s (t .goals) (t .history) x ≡ 0) (ten : weightsRefusal (t .weights) ≡ 10) where
-  pub objective-refused-weights : (value : ℕ) → roomRefusal valueLength value ≡ 0 → objectiveNumber s t x value ≡ 10
-  unfolding objectiveNumber
-  objective-refused-weights value v = first-zero _ _ q ∙ first-zero _ _ v ∙ ten
+-- weights that are refused, and tools where the weights are not
+module _ (s : SheetLists) (t : TaskLists) where
+  pub refused-weights : weightsRefusal (t .weights) ≡ 10 → optionalNumber s t ≡ 10
+  unfolding optionalNumber
+  refused-weights ten = first-is _ _ 9 ten
 
-  pub slopes-refused-weights : (scratch value slopes : ℕ) → roomRefusal (scratchLength (s .codes)) scratch ≡ 0 → roomRefusal valueLength value ≡ 0
-      → roomRefusal (slopesLength (s .codes)) slopes ≡ 0 → slopesNumber s t x scratch value slopes ≡ 10
-  unfolding slopesNumber
-  slopes-refused-weights scratch value slopes a v d = first-zero _ _ q ∙ first-zero _ _ a ∙ first-zero _ _ v ∙ first-zero _ _ d ∙ ten
+  pub refused-tools : weightsRefusal (t .weights) ≡ 0 → toolsNumber s (t .tools) ≡ 11 → optionalNumber s t ≡ 11
+  unfolding optionalNumber
+  refused-tools none eleven = first-zero _ _ none ∙ eleven
+
+  -- the call's number then, where nothing else is refused
+  module _ (x : List Float) (q : taskNumber s (t .goals) (t .history) x ≡ 0) where
+    pub objective-refused-optional : (value : ℕ) → roomRefusal valueLength value ≡ 0 → objectiveNumber s t x value ≡ optionalNumber s t
+    unfolding objectiveNumber
+    objective-refused-optional value v = first-zero _ _ q ∙ first-zero _ _ v
+
+    pub slopes-refused-optional : (scratch value slopes : ℕ) → roomRefusal (scratchLength (s .codes)) scratch ≡ 0 → roomRefusal valueLength value ≡ 0
+        → roomRefusal (slopesLength (s .codes)) slopes ≡ 0 → slopesNumber s t x scratch value slopes ≡ optionalNumber s t
+    unfolding slopesNumber
+    slopes-refused-optional scratch value slopes a v d = first-zero _ _ q ∙ first-zero _ _ a ∙ first-zero _ _ v ∙ first-zero _ _ d

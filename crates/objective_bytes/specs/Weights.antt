@@ -9,9 +9,8 @@ use lib.ListN.{length}
 use Rattle.lists.specs.Runs.{runs}
 use Rattle.lists.specs.Listed.{listed}
 use Rattle.task.specs.Task.{Given}
-use Rattle.refusals.specs.Lengths.{scratchLength, slopesLength, valueLength}
-use Rattle.refusals.specs.Lowest.{firstOf, first-last}
-use Rattle.refusals.specs.Refusal.{roomRefusal, weightsRefusal}
+use Rattle.refusals.specs.Lowest.{first-zero}
+use Rattle.refusals.specs.Refusal.{weightsRefusal}
 use Rattle.objective_master.specs.Weights.{weightPriors, inForce, none-in-force, loaded-in-force}
 use Rattle.gradient.specs.Gradient.{valueAt, slopesOf}
 use Rattle.gradient.specs.declared.slopes.Rule.{Rule}
@@ -21,7 +20,8 @@ use Rattle.lent_bytes.specs.Lent.{countIn, floatsIn, bytesOfEach, bytesOf}
 use Rattle.lent_bytes.specs.declared.optional.Optional.the-variants.{Empty, Floats, WrongLength}
 use Rattle.lent_bytes.specs.Optional.{optionalIn, left-out, only-left-out}
 use Rattle.lent_bytes.specs.SheetLists.{SheetLists}
-use Rattle.objective_bytes.specs.ObjectiveCalls.{weightsFrom, inForceFrom, TaskLists, taskNumber, objectiveNumber, slopesNumber, givenLent, valueIn, slopesIn}
+use Rattle.arm_bytes.specs.ArmCalls.{toolsNumber}
+use Rattle.objective_bytes.specs.ObjectiveCalls.{weightsFrom, inForceFrom, TaskLists, optionalNumber, givenLent, valueIn, slopesIn}
 
 -- ---- which weights are in force
 -- a list without a byte: the built-in ones
@@ -50,24 +50,17 @@ pub built-in-lent : inForceFrom (bytesOf weightPriors) ≡ weightPriors
 unfolding inForceFrom inForce floatsIn countIn listed runs floatAt bytesOf bytesOfEach weightPriors ofBits toBits
 built-in-lent = refl
 
--- ---- what was answered before there were weights to lend
+-- ---- what is answered without weights to lend
 pub no-ten : (ws : List Float) → ws ≡ weightPriors → weightsRefusal ws ≡ 0
 no-ten ws e = ap weightsRefusal e ∙ priors-pass
 
--- with the built-in weights in force, lent or not, numbers and answers are those
+-- of the lists that may be left out the tools alone are asked then
+pub optional-built-in : (s : SheetLists) (t : TaskLists) → t .weights ≡ weightPriors → optionalNumber s t ≡ toolsNumber s (t .tools)
+unfolding optionalNumber
+optional-built-in s t e = first-zero _ _ (no-ten _ e)
+
+-- with the built-in weights in force, lent or not, the answers are those
 module _ (s : SheetLists) (t : TaskLists) (x : List Float) (e : t .weights ≡ weightPriors) where
-  pub objective-number-built-in : (value : ℕ) → objectiveNumber s t x value ≡ firstOf (taskNumber s (t .goals) (t .history) x) (roomRefusal valueLength value)
-  unfolding objectiveNumber
-  objective-number-built-in value = ap (firstOf (taskNumber s (t .goals) (t .history) x)) (first-last _ _ (no-ten _ e))
-
-  pub slopes-number-built-in : (scratch value slopes : ℕ) → slopesNumber s t x scratch value slopes
-      ≡ firstOf (taskNumber s (t .goals) (t .history) x)
-      (firstOf (roomRefusal (scratchLength (s .codes)) scratch) (firstOf (roomRefusal valueLength value) (roomRefusal (slopesLength (s .codes)) slopes)))
-  unfolding slopesNumber
-  slopes-number-built-in scratch value slopes =
-      ap (λ (n : ℕ). firstOf (taskNumber s (t .goals) (t .history) x) (firstOf (roomRefusal (scratchLength (s .codes)) scratch) (firstOf (roomRefusal valueLength value) n)))
-      (first-last _ _ (no-ten _ e))
-
   given-built-in : givenLent s t ≡ builtIn (givenLent s t)
   unfolding givenLent
   given-built-in = built-in-same (givenLent s t) e

@@ -1,4 +1,5 @@
 // What the byte calls on the objective do once their lists are decoded; outputs are bytes.
+use arm_bytes::tools::tools_number;
 use gradient::gradient as slopes_of;
 use gradient::slopes::Rule;
 use gradient::value as value_of;
@@ -13,6 +14,8 @@ ghost use Prim.Native.Nat.{_*_, _≤_};
 ghost use lib.ListN.{length, take};
 ghost use mathlib.Core.List.{[], _∷_};
 ghost use Rattle.lists.specs.Splice.{splice};
+ghost use Rattle.refusals.specs.Lowest.{firstOf};
+ghost use Rattle.refusals.specs.Refusal.{chainsOf, weightsRefusal, toolsRefusal};
 ghost use Rattle.lent_bytes.specs.Lent.{roomIn, bytesOf};
 ghost use Rattle.lists.specs.Lent.{lent};
 ghost use Rattle.lent_bytes.specs.SheetLists.{sheetWith, sheetOf, roomOf};
@@ -42,6 +45,13 @@ pub fn task_number(
     lent::first_of(seven, eight)
 }
 
+// Of the lists that may be left out.
+pub fn optional_number(sizes: &[u16], weights: &[f64], tools: &[f64; 32]) -> u16
+    ensures { λ r. ⌜ r ≡ firstOf (weightsRefusal (lent weights)) (toolsRefusal (chainsOf (lent sizes)) (lent tools)) ⌝ }
+{
+    lent::first_of(lent::weights_refusal(weights), tools_number(sizes, tools))
+}
+
 // Sizes of outputs are in bytes.
 fn slopes_number(
     sizes: &[u16],
@@ -51,22 +61,23 @@ fn slopes_number(
     goals: &[f64],
     history: &[f64],
     weights: &[f64],
+    tools: &[f64; 32],
     joints: &[f64],
     scratch: usize,
     value: usize,
     slopes: usize,
 ) -> u16
-    ensures { λ r. ⌜ r ≡ slopesNumber (sheetOf sizes codes floats limits) (taskOf goals history weights) (lent joints) (roomIn scratch) (roomIn value) (roomIn slopes) ⌝ }
+    ensures { λ r. ⌜ r ≡ slopesNumber (sheetOf sizes codes floats limits) (taskOf goals history weights tools) (lent joints) (roomIn scratch) (roomIn value) (roomIn slopes) ⌝ }
 {
     let of_task = task_number(sizes, codes, floats, limits, goals, history, joints);
     let n = lengths::block_length(codes);
     let first = lent::room_refusal(n, bytes_lent::room(scratch));
     let second = lent::room_refusal(1, bytes_lent::room(value));
     let third = lent::room_refusal(n, bytes_lent::room(slopes));
-    let ten = lent::weights_refusal(weights);
+    let last = optional_number(sizes, weights, tools);
     lent::first_of(
         of_task,
-        lent::first_of(first, lent::first_of(second, lent::first_of(third, ten))),
+        lent::first_of(first, lent::first_of(second, lent::first_of(third, last))),
     )
 }
 
@@ -78,14 +89,23 @@ fn value_on(
     goals: &[f64],
     history: &[f64],
     weights: &[f64],
+    tools: &[f64; 32],
     joints: &[f64],
 ) -> f64
-    requires { ⌜ Passed (sheetWith (now sizes) (now codes) (now floats) (now limits)) (taskWith (now goals) (now history) (now weights)) (now joints) ⌝ }
-    ensures { λ r. ⌜ r ≡ valueIn (sheetOf sizes codes floats limits) (taskOf goals history weights) (lent joints) ⌝ }
+    requires { ⌜ Passed (sheetWith (now sizes) (now codes) (now floats) (now limits)) (taskWith (now goals) (now history) (now weights) (now tools)) (now joints) ⌝ }
+    ensures { λ r. ⌜ r ≡ valueIn (sheetOf sizes codes floats limits) (taskOf goals history weights tools) (lent joints) ⌝ }
 {
     let counts = shape::links(sizes);
     let mut task = [0.0; task::LENGTH];
-    lay::lay_lent(weights, limits, goals, history, joints.len(), &mut task);
+    lay::lay_lent(
+        weights,
+        limits,
+        goals,
+        history,
+        tools,
+        joints.len(),
+        &mut task,
+    );
     value_of::objective(counts, codes, floats, &task, joints)
 }
 
@@ -99,18 +119,27 @@ fn slopes_on(
     goals: &[f64],
     history: &[f64],
     weights: &[f64],
+    tools: &[f64; 32],
     joints: &[f64],
     scratch: &mut [f64],
     slopes: &mut [f64],
 ) -> f64
-    requires { ⌜ (Passed (sheetWith (now sizes) (now codes) (now floats) (now limits)) (taskWith (now goals) (now history) (now weights)) (now joints)) × (length (now scratch) ≡ 16) × (length (now slopes) ≡ 16) ⌝ }
-    ensures { λ r. ⌜ r ≡ valueIn (sheetOf sizes codes floats limits) (taskOf goals history weights) (lent joints) ⌝ }
-    ensures { λ _. ⌜ now (slopes .exit) ≡ splice (lent slopes) 0 (slopesIn rule (sheetOf sizes codes floats limits) (taskOf goals history weights) (lent joints)) ⌝ }
+    requires { ⌜ (Passed (sheetWith (now sizes) (now codes) (now floats) (now limits)) (taskWith (now goals) (now history) (now weights) (now tools)) (now joints)) × (length (now scratch) ≡ 16) × (length (now slopes) ≡ 16) ⌝ }
+    ensures { λ r. ⌜ r ≡ valueIn (sheetOf sizes codes floats limits) (taskOf goals history weights tools) (lent joints) ⌝ }
+    ensures { λ _. ⌜ now (slopes .exit) ≡ splice (lent slopes) 0 (slopesIn rule (sheetOf sizes codes floats limits) (taskOf goals history weights tools) (lent joints)) ⌝ }
     ensures { λ _. ⌜ now (scratch .exit) ≡ splice (lent scratch) 0 (lent joints) ⌝ }
 {
     let counts = shape::links(sizes);
     let mut task = [0.0; task::LENGTH];
-    lay::lay_lent(weights, limits, goals, history, joints.len(), &mut task);
+    lay::lay_lent(
+        weights,
+        limits,
+        goals,
+        history,
+        tools,
+        joints.len(),
+        &mut task,
+    );
     slopes_of::gradient(rule, counts, codes, floats, &task, joints, scratch, slopes)
 }
 
@@ -144,16 +173,17 @@ pub(crate) fn objective(
     goals: &[f64],
     history: &[f64],
     weights: &[f64],
+    tools: &[f64; 32],
     joints: &[f64],
     value: &mut [u8],
 ) -> u16
-    ensures number { λ r. ⌜ r ≡ objectiveNumber (sheetOf sizes codes floats limits) (taskOf goals history weights) (lent joints) (roomOf value) ⌝ }
-    ensures value { λ r. ⌜ now (value .exit) ≡ outputOf r value (objectiveValue (sheetOf sizes codes floats limits) (taskOf goals history weights) (lent joints)) ⌝ }
+    ensures number { λ r. ⌜ r ≡ objectiveNumber (sheetOf sizes codes floats limits) (taskOf goals history weights tools) (lent joints) (roomOf value) ⌝ }
+    ensures value { λ r. ⌜ now (value .exit) ≡ outputOf r value (objectiveValue (sheetOf sizes codes floats limits) (taskOf goals history weights tools) (lent joints)) ⌝ }
 {
     let of_task = task_number(sizes, codes, floats, limits, goals, history, joints);
     let nine = lent::room_refusal(1, bytes_lent::room(value.len()));
-    let ten = lent::weights_refusal(weights);
-    let number = lent::first_of(of_task, lent::first_of(nine, ten));
+    let last = optional_number(sizes, weights, tools);
+    let number = lent::first_of(of_task, lent::first_of(nine, last));
     if number != 0 {
         return number;
     }
@@ -165,6 +195,7 @@ pub(crate) fn objective(
         goals,
         history,
         weights,
+        tools,
         joints,
     )];
     bytes_lent::put_floats(&one, 0, value);
@@ -180,15 +211,16 @@ pub(crate) fn gradient(
     goals: &[f64],
     history: &[f64],
     weights: &[f64],
+    tools: &[f64; 32],
     joints: &[f64],
     scratch: &mut [u8],
     value: &mut [u8],
     slopes: &mut [u8],
 ) -> u16
-    ensures number { λ r. ⌜ r ≡ slopesNumber (sheetOf sizes codes floats limits) (taskOf goals history weights) (lent joints) (roomOf scratch) (roomOf value) (roomOf slopes) ⌝ }
+    ensures number { λ r. ⌜ r ≡ slopesNumber (sheetOf sizes codes floats limits) (taskOf goals history weights tools) (lent joints) (roomOf scratch) (roomOf value) (roomOf slopes) ⌝ }
     ensures scratch { λ r. ⌜ now (scratch .exit) ≡ outputOf r scratch (lent joints) ⌝ }
-    ensures value { λ r. ⌜ now (value .exit) ≡ outputOf r value (objectiveValue (sheetOf sizes codes floats limits) (taskOf goals history weights) (lent joints)) ⌝ }
-    ensures slopes { λ r. ⌜ now (slopes .exit) ≡ outputOf r slopes (slopesIn rule (sheetOf sizes codes floats limits) (taskOf goals history weights) (lent joints)) ⌝ }
+    ensures value { λ r. ⌜ now (value .exit) ≡ outputOf r value (objectiveValue (sheetOf sizes codes floats limits) (taskOf goals history weights tools) (lent joints)) ⌝ }
+    ensures slopes { λ r. ⌜ now (slopes .exit) ≡ outputOf r slopes (slopesIn rule (sheetOf sizes codes floats limits) (taskOf goals history weights tools) (lent joints)) ⌝ }
 {
     let number = slopes_number(
         sizes,
@@ -198,6 +230,7 @@ pub(crate) fn gradient(
         goals,
         history,
         weights,
+        tools,
         joints,
         scratch.len(),
         value.len(),
@@ -217,6 +250,7 @@ pub(crate) fn gradient(
         goals,
         history,
         weights,
+        tools,
         joints,
         &mut x,
         &mut d,

@@ -5,8 +5,10 @@ use gradient::slopes::Rule;
 use lent_bytes::lent;
 use lent_bytes::sheet_lists;
 use lent_bytes::task_lists;
+use lent_bytes::tool_lists;
 ghost use mathlib.Core.Path.{_≡_};
 ghost use Rattle.lent_bytes.specs.SheetLists.{sheetIn, blockIn, roomOf};
+ghost use Rattle.lent_bytes.specs.ToolLists.{toolsIn};
 ghost use Rattle.arm_bytes.specs.ArmCalls.{outputOf};
 ghost use Rattle.objective_bytes.specs.ObjectiveCalls.{weightsIn, taskIn, setWeightsNumber, objectiveNumber, slopesNumber, objectiveValue, slopesIn, gradientSlopes, finiteDiffSlopes};
 
@@ -27,11 +29,15 @@ pub fn objective(
     goals: &[u8],
     history: &[u8],
     weights: &[u8],
+    tool0: &[u8],
+    tool1: &[u8],
+    tool2: &[u8],
+    tool3: &[u8],
     joints: &[u8],
     value: &mut [u8],
 ) -> u32
-    ensures number { λ r. ⌜ r ≡ objectiveNumber (sheetIn sizes codes floats limits) (taskIn goals history weights) (blockIn joints) (roomOf value) ⌝ }
-    ensures value { λ r. ⌜ now (value .exit) ≡ outputOf r value (objectiveValue (sheetIn sizes codes floats limits) (taskIn goals history weights) (blockIn joints)) ⌝ }
+    ensures number { λ r. ⌜ r ≡ objectiveNumber (sheetIn sizes codes floats limits) (taskIn goals history weights (toolsIn tool0 tool1 tool2 tool3)) (blockIn joints) (roomOf value) ⌝ }
+    ensures value { λ r. ⌜ now (value .exit) ≡ outputOf r value (objectiveValue (sheetIn sizes codes floats limits) (taskIn goals history weights (toolsIn tool0 tool1 tool2 tool3)) (blockIn joints)) ⌝ }
 {
     let mut s = [0u16; 5];
     let mut c = [0u16; 64];
@@ -51,6 +57,7 @@ pub fn objective(
     let nh = t.history;
     let nx = t.joints;
     let nw = weights_list::decode(weights, &mut w);
+    let tools = tool_lists::decode(tool0, tool1, tool2, tool3);
     objective_lists::objective(
         &s[..ns],
         &c[..nc],
@@ -59,6 +66,7 @@ pub fn objective(
         &g[..ng],
         &h[..nh],
         &w[..nw],
+        &tools,
         &x[..nx],
         value,
     ) as u32
@@ -74,15 +82,19 @@ fn slopes_by(
     goals: &[u8],
     history: &[u8],
     weights: &[u8],
+    tool0: &[u8],
+    tool1: &[u8],
+    tool2: &[u8],
+    tool3: &[u8],
     joints: &[u8],
     scratch: &mut [u8],
     value: &mut [u8],
     slopes: &mut [u8],
 ) -> u32
-    ensures number { λ r. ⌜ r ≡ slopesNumber (sheetIn sizes codes floats limits) (taskIn goals history weights) (blockIn joints) (roomOf scratch) (roomOf value) (roomOf slopes) ⌝ }
+    ensures number { λ r. ⌜ r ≡ slopesNumber (sheetIn sizes codes floats limits) (taskIn goals history weights (toolsIn tool0 tool1 tool2 tool3)) (blockIn joints) (roomOf scratch) (roomOf value) (roomOf slopes) ⌝ }
     ensures scratch { λ r. ⌜ now (scratch .exit) ≡ outputOf r scratch (blockIn joints) ⌝ }
-    ensures value { λ r. ⌜ now (value .exit) ≡ outputOf r value (objectiveValue (sheetIn sizes codes floats limits) (taskIn goals history weights) (blockIn joints)) ⌝ }
-    ensures slopes { λ r. ⌜ now (slopes .exit) ≡ outputOf r slopes (slopesIn rule (sheetIn sizes codes floats limits) (taskIn goals history weights) (blockIn joints)) ⌝ }
+    ensures value { λ r. ⌜ now (value .exit) ≡ outputOf r value (objectiveValue (sheetIn sizes codes floats limits) (taskIn goals history weights (toolsIn tool0 tool1 tool2 tool3)) (blockIn joints)) ⌝ }
+    ensures slopes { λ r. ⌜ now (slopes .exit) ≡ outputOf r slopes (slopesIn rule (sheetIn sizes codes floats limits) (taskIn goals history weights (toolsIn tool0 tool1 tool2 tool3)) (blockIn joints)) ⌝ }
 {
     let mut s = [0u16; 5];
     let mut c = [0u16; 64];
@@ -102,6 +114,7 @@ fn slopes_by(
     let nh = t.history;
     let nx = t.joints;
     let nw = weights_list::decode(weights, &mut w);
+    let tools = tool_lists::decode(tool0, tool1, tool2, tool3);
     objective_lists::gradient(
         rule,
         &s[..ns],
@@ -111,6 +124,7 @@ fn slopes_by(
         &g[..ng],
         &h[..nh],
         &w[..nw],
+        &tools,
         &x[..nx],
         scratch,
         value,
@@ -126,15 +140,19 @@ pub fn gradient(
     goals: &[u8],
     history: &[u8],
     weights: &[u8],
+    tool0: &[u8],
+    tool1: &[u8],
+    tool2: &[u8],
+    tool3: &[u8],
     joints: &[u8],
     scratch: &mut [u8],
     value: &mut [u8],
     slopes: &mut [u8],
 ) -> u32
-    ensures number { λ r. ⌜ r ≡ slopesNumber (sheetIn sizes codes floats limits) (taskIn goals history weights) (blockIn joints) (roomOf scratch) (roomOf value) (roomOf slopes) ⌝ }
+    ensures number { λ r. ⌜ r ≡ slopesNumber (sheetIn sizes codes floats limits) (taskIn goals history weights (toolsIn tool0 tool1 tool2 tool3)) (blockIn joints) (roomOf scratch) (roomOf value) (roomOf slopes) ⌝ }
     ensures scratch { λ r. ⌜ now (scratch .exit) ≡ outputOf r scratch (blockIn joints) ⌝ }
-    ensures value { λ r. ⌜ now (value .exit) ≡ outputOf r value (objectiveValue (sheetIn sizes codes floats limits) (taskIn goals history weights) (blockIn joints)) ⌝ }
-    ensures slopes { λ r. ⌜ now (slopes .exit) ≡ outputOf r slopes (gradientSlopes (sheetIn sizes codes floats limits) (taskIn goals history weights) (blockIn joints)) ⌝ }
+    ensures value { λ r. ⌜ now (value .exit) ≡ outputOf r value (objectiveValue (sheetIn sizes codes floats limits) (taskIn goals history weights (toolsIn tool0 tool1 tool2 tool3)) (blockIn joints)) ⌝ }
+    ensures slopes { λ r. ⌜ now (slopes .exit) ≡ outputOf r slopes (gradientSlopes (sheetIn sizes codes floats limits) (taskIn goals history weights (toolsIn tool0 tool1 tool2 tool3)) (blockIn joints)) ⌝ }
 {
     slopes_by(
         Rule::EachLoss,
@@ -145,6 +163,10 @@ pub fn gradient(
         goals,
         history,
         weights,
+        tool0,
+        tool1,
+        tool2,
+        tool3,
         joints,
         scratch,
         value,
@@ -160,15 +182,19 @@ pub fn gradient_finite_diff(
     goals: &[u8],
     history: &[u8],
     weights: &[u8],
+    tool0: &[u8],
+    tool1: &[u8],
+    tool2: &[u8],
+    tool3: &[u8],
     joints: &[u8],
     scratch: &mut [u8],
     value: &mut [u8],
     slopes: &mut [u8],
 ) -> u32
-    ensures number { λ r. ⌜ r ≡ slopesNumber (sheetIn sizes codes floats limits) (taskIn goals history weights) (blockIn joints) (roomOf scratch) (roomOf value) (roomOf slopes) ⌝ }
+    ensures number { λ r. ⌜ r ≡ slopesNumber (sheetIn sizes codes floats limits) (taskIn goals history weights (toolsIn tool0 tool1 tool2 tool3)) (blockIn joints) (roomOf scratch) (roomOf value) (roomOf slopes) ⌝ }
     ensures scratch { λ r. ⌜ now (scratch .exit) ≡ outputOf r scratch (blockIn joints) ⌝ }
-    ensures value { λ r. ⌜ now (value .exit) ≡ outputOf r value (objectiveValue (sheetIn sizes codes floats limits) (taskIn goals history weights) (blockIn joints)) ⌝ }
-    ensures slopes { λ r. ⌜ now (slopes .exit) ≡ outputOf r slopes (finiteDiffSlopes (sheetIn sizes codes floats limits) (taskIn goals history weights) (blockIn joints)) ⌝ }
+    ensures value { λ r. ⌜ now (value .exit) ≡ outputOf r value (objectiveValue (sheetIn sizes codes floats limits) (taskIn goals history weights (toolsIn tool0 tool1 tool2 tool3)) (blockIn joints)) ⌝ }
+    ensures slopes { λ r. ⌜ now (slopes .exit) ≡ outputOf r slopes (finiteDiffSlopes (sheetIn sizes codes floats limits) (taskIn goals history weights (toolsIn tool0 tool1 tool2 tool3)) (blockIn joints)) ⌝ }
 {
     slopes_by(
         Rule::WeightedSum,
@@ -179,6 +205,10 @@ pub fn gradient_finite_diff(
         goals,
         history,
         weights,
+        tool0,
+        tool1,
+        tool2,
+        tool3,
         joints,
         scratch,
         value,

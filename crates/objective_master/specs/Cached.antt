@@ -14,6 +14,7 @@ use Rattle.lists.specs.Splice.{splice, length-splice, splice-splice, getD-splic
 use Rattle.lists.specs.Runs.{runs, length-runs}
 use Rattle.task.specs.Task.{Given}
 use Rattle.sheet.specs.Chain.{total, chainStart, joints}
+use Rattle.spacetime.specs.Tool.{tipOf}
 use Rattle.manipulability.specs.View.{walkedAgain}
 use Rattle.groove.specs.Loss.{anyNan}
 use Rattle.self_collision.specs.Pairs.{Pair, pair, allPairs, firstArm, chainLengths, pairLoss, pairLast, pairLosses, pairLasts, CachedPairs, lengths-count}
@@ -85,15 +86,17 @@ piece-turn f w each t at n xs cur i k s e h fit ek q =
     ∙ s .cached i r h (omega (arith, each i)) q)
 
 -- a chain's goal, by the number of its last link
-pub goal-is : (ns : List ℕ) (goals : List Float) (P : ℕ → Pose) (c l : ℕ) → l ≡ chainStart ns c → poseLosses goals c (P (l + getD ns c 0 - 1)) ≡ goalLosses ns goals P c
+pub goal-is : (ns : List ℕ) (goals tools : List Float) (P : ℕ → Pose) (c l : ℕ) → l ≡ chainStart ns c
+    → poseLosses goals c (tipOf tools c (P (l + getD ns c 0 - 1))) ≡ goalLosses ns goals tools P c
 unfolding goalLosses
-goal-is ns goals P c l e = ap (λ (k : ℕ). poseLosses goals c (P (k + getD ns c 0 - 1))) e
+goal-is ns goals tools P c l e = ap (λ (k : ℕ). poseLosses goals c (tipOf tools c (P (k + getD ns c 0 - 1)))) e
 
-pub goal-cached : (ns : List ℕ) (goals : List Float) (P : ℕ → Pose) (from to c l k : ℕ) (out : List Float) → l ≡ chainStart ns c → CachedPiece (endAgain ns from to c) k (goalLosses ns goals P c) out
-    → CachedPiece (walkedAgain from to (l + getD ns c 0 - 1)) k (poseLosses goals c (P (l + getD ns c 0 - 1))) out
+pub goal-cached : (ns : List ℕ) (goals tools : List Float) (P : ℕ → Pose) (from to c l k : ℕ) (out : List Float) → l ≡ chainStart ns c
+    → CachedPiece (endAgain ns from to c) k (goalLosses ns goals tools P c) out
+    → CachedPiece (walkedAgain from to (l + getD ns c 0 - 1)) k (poseLosses goals c (tipOf tools c (P (l + getD ns c 0 - 1)))) out
 unfolding endAgain
-goal-cached ns goals P from to c l k out e h q =
-    h (ap (λ (m : ℕ). walkedAgain from to (m + getD ns c 0 - 1)) (sym e) ∙ q) ∙ ap (splice out k) (sym (goal-is ns goals P c l e))
+goal-cached ns goals tools P from to c l k out e h q =
+    h (ap (λ (m : ℕ). walkedAgain from to (m + getD ns c 0 - 1)) (sym e) ∙ q) ∙ ap (splice out k) (sym (goal-is ns goals tools P c l e))
 
 -- ---- from the whole list to its sections
 pub map-at : {A B : Type 0} (h : A → B) (xs : List A) (i : ℕ) (a : A) (b : B) → i < length xs → getD (map h xs) i b ≡ h (getD xs i a)
@@ -125,7 +128,7 @@ module _ (g : Given) (P : ℕ → Pose) (x : List Float) (from to joint : ℕ) (
   joints-are : total lens ≡ length x
   joints-are = lengths-total ns (g .codes) w ∙ sym v
 
-  pub goals-cached : CachedPieces (goalLosses ns (g .goals) P) goalWidth (endAgain ns from to) 0 (length ns) xs
+  pub goals-cached : CachedPieces (goalLosses ns (g .goals) (g .tools) P) goalWidth (endAgain ns from to) 0 (length ns) xs
   unfolding lossesOf lossOf goalObjectives touched goalLosses poseLosses offLosses turnLosses
   goals-cached =
       record {
@@ -191,9 +194,9 @@ joined xs cur new ys zs k e₁ e₂ e₃ h =
 
 module _ (g : Given) (P : ℕ → Pose) (x : List Float) (o₀ o₁ : List Float) (w : total (g .counts) ≡ length (g .codes)) (v : length x ≡ joints (g .codes))
     (room : length (objectivesOf g) ≤ length o₀)
-    (e₁ : o₁ ≡ splice o₀ 0 (runs (goalLosses (g .counts) (g .goals) P) 0 (length (g .counts)))) where
+    (e₁ : o₁ ≡ splice o₀ 0 (runs (goalLosses (g .counts) (g .goals) (g .tools) P) 0 (length (g .counts)))) where
   abbrev goals : List Float
-  goals = runs (goalLosses (g .counts) (g .goals) P) 0 (length (g .counts))
+  goals = runs (goalLosses (g .counts) (g .goals) (g .tools) P) 0 (length (g .counts))
 
   abbrev limits : List Float
   limits = runs (limitLosses (g .limits) x) 0 (length x)
@@ -206,7 +209,7 @@ module _ (g : Given) (P : ℕ → Pose) (x : List Float) (o₀ o₁ : List Float
       omega (arith, room, count sourceList (chainLengths (g .counts) (g .codes)), lengths-count (g .counts) (g .codes), lengths-total (g .counts) (g .codes) w)
 
   goals-many : length goals ≡ goalWidth * length (g .counts)
-  goals-many = length-runs (goalLosses (g .counts) (g .goals) P) goalWidth (goal-length (g .counts) (g .goals) P) 0 (length (g .counts)) ∙ omega arith
+  goals-many = length-runs (goalLosses (g .counts) (g .goals) (g .tools) P) goalWidth (goal-length (g .counts) (g .goals) (g .tools) P) 0 (length (g .counts)) ∙ omega arith
 
   limits-many : length (goals ++ limits) ≡ goalWidth * length (g .counts) + length x
   limits-many =

@@ -60,8 +60,8 @@ limitLoss limits x j = eachJointLimits (getD x j nan) (getD limits (2 * j) nan) 
 
 -- what an objective costs
 unfoldable pub lossOf : Given → (ℕ → Pose) → List Float → Objective → Float
-lossOf g P x (MatchEEPosiDoF c a) = offLoss (g .goals) c (endOf (g .counts) P c) a
-lossOf g P x (MatchEERotaDoF c a) = turnLoss (g .goals) c (endOf (g .counts) P c) a
+lossOf g P x (MatchEEPosiDoF c a) = offLoss (g .goals) c (endOf (g .counts) (g .tools) P c) a
+lossOf g P x (MatchEERotaDoF c a) = turnLoss (g .goals) c (endOf (g .counts) (g .tools) P c) a
 lossOf g P x (EachJointLimits j) = limitLoss (g .limits) x j
 lossOf g P x MinimizeVelocity = minimizeVelocity (velocityOf x (g .xopt))
 lossOf g P x MinimizeAcceleration = minimizeAcceleration (accelerationOf x (g .xopt) (g .«prev_state»))
@@ -89,8 +89,8 @@ turnLosses goals c end = turnLoss goals c end 0 ∷ turnLoss goals c end 1 ∷ t
 unfoldable pub poseLosses : List Float → ℕ → Pose → List Float
 poseLosses goals c end = offLosses goals c end ++ turnLosses goals c end
 
-unfoldable pub goalLosses : List ℕ → List Float → (ℕ → Pose) → ℕ → List Float
-goalLosses ns goals P c = poseLosses goals c (endOf ns P c)
+unfoldable pub goalLosses : List ℕ → List Float → List Float → (ℕ → Pose) → ℕ → List Float
+goalLosses ns goals tools P c = poseLosses goals c (endOf ns tools P c)
 
 -- the one of joint j's limits
 unfoldable pub limitLosses : List Float → List Float → ℕ → List Float
@@ -104,7 +104,7 @@ changeLosses x xopt prev prev2 = minimizeVelocity (velocityOf x xopt) ∷ minimi
 unfoldable pub motionLosses : (ℕ → Pose) → List ℕ → List ℕ → List Float → List Float → List Float → List Float → List Float
 motionLosses P ns cs x xopt prev prev2 = changeLosses x xopt prev prev2 ++ (maximizeManipulability (manipulabilityOf P ns cs) ∷ [])
 
--- what is lent for it: an accepted sheet, the list with its limits, goals and history, joints, and a view of the poses
+-- what is lent for it: an accepted sheet, the list with its limits, goals, history and tools, joints, and a view of the poses
 pub record Lent (ns cs : List ℕ) (task x base tail : List Float) (from to : ℕ) : Type 0 where
   pub paired : Paired ns cs
   pub chains : Chains ns
@@ -117,9 +117,9 @@ pub losses-many : (g : Given) (P : ℕ → Pose) (x : List Float) → length (lo
 unfolding lossesOf
 losses-many g P x = length-map (objectivesOf g) (lossOf g P x)
 
-pub goal-length : (ns : List ℕ) (goals : List Float) (P : ℕ → Pose) (c : ℕ) → length (goalLosses ns goals P c) ≡ goalWidth
+pub goal-length : (ns : List ℕ) (goals tools : List Float) (P : ℕ → Pose) (c : ℕ) → length (goalLosses ns goals tools P c) ≡ goalWidth
 unfolding goalLosses poseLosses offLosses turnLosses
-goal-length ns goals P c = refl
+goal-length ns goals tools P c = refl
 
 pub limit-length : (limits x : List Float) (j : ℕ) → length (limitLosses limits x j) ≡ 1
 unfolding limitLosses
@@ -162,7 +162,7 @@ module _ (g : Given) (P : ℕ → Pose) (x : List Float) where
 
   -- the list of losses by sections
   pub losses-sections : total (g .counts) ≡ length (g .codes) → length x ≡ joints (g .codes)
-      → lossesOf g P x ≡ runs (goalLosses (g .counts) (g .goals) P) 0 (length (g .counts))
+      → lossesOf g P x ≡ runs (goalLosses (g .counts) (g .goals) (g .tools) P) 0 (length (g .counts))
       ++ (runs (limitLosses (g .limits) x) 0 (length x)
       ++ (motionLosses P (g .counts) (g .codes) x (g .xopt) (g .«prev_state») (g .«prev_state2»)
       ++ pairLosses (g .counts) P firstArm (chainLengths (g .counts) (g .codes)) (anyNan x)))
@@ -170,5 +170,5 @@ module _ (g : Given) (P : ℕ → Pose) (x : List Float) where
   losses-sections w v =
       let rest : List Float = motionLosses P ns (g .codes) x (g .xopt) (g .«prev_state») (g .«prev_state2») ++ pairLosses ns P firstArm lens (anyNan x) in
       sections (lossOf g P x) sourceList lens
-      ∙ ap (λ (n : ℕ). runs (goalLosses ns (g .goals) P) 0 n ++ (runs (limitLosses (g .limits) x) 0 (total lens) ++ rest)) (lengths-count ns (g .codes))
-      ∙ ap (λ (n : ℕ). runs (goalLosses ns (g .goals) P) 0 (length ns) ++ (runs (limitLosses (g .limits) x) 0 n ++ rest)) (lengths-total ns (g .codes) w ∙ sym v)
+      ∙ ap (λ (n : ℕ). runs (goalLosses ns (g .goals) (g .tools) P) 0 n ++ (runs (limitLosses (g .limits) x) 0 (total lens) ++ rest)) (lengths-count ns (g .codes))
+      ∙ ap (λ (n : ℕ). runs (goalLosses ns (g .goals) (g .tools) P) 0 (length ns) ++ (runs (limitLosses (g .limits) x) 0 n ++ rest)) (lengths-total ns (g .codes) w ∙ sym v)

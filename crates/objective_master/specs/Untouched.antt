@@ -11,6 +11,7 @@ use borrow.Author.Tests.{lt-ltb, le-leb, lt-leb, leb-false, eq-eqb}
 use Rattle.geometry.specs.declared.pose.Pose.{Pose}
 use Rattle.task.specs.Task.{Given}
 use Rattle.sheet.specs.Chain.{total, chainStart, below-or}
+use Rattle.spacetime.specs.Tool.{tipOf}
 use Rattle.spacetime.specs.Frames.{endOf, Chains, chain-within}
 use Rattle.manipulability.specs.Jacobian.{manipulability-ext}
 use Rattle.groove.specs.Loss.{anyNan, maximizeManipulability, eachJointLimits}
@@ -75,8 +76,8 @@ module _ (g : Given) (P Q : ℕ → Pose) (x y : List Float) (from to joint : �
       let Same : Objective → Type 0 = λ o. T o ≡ false → lossOf g P x o ≡ lossOf g Q y o in
       objectives-each Same sourceList (chainLengths (g .counts) (g .codes))
       (λ c h. every-goal Same c
-      (λ a q. ap (λ (p : Pose). offLoss (g .goals) c p a) (poses (chainStart (g .counts) c + getD (g .counts) c 0 - 1) q))
-      (λ a q. ap (λ (p : Pose). turnLoss (g .goals) c p a) (poses (chainStart (g .counts) c + getD (g .counts) c 0 - 1) q)))
+      (λ a q. ap (λ (p : Pose). offLoss (g .goals) c (tipOf (g .tools) c p) a) (poses (chainStart (g .counts) c + getD (g .counts) c 0 - 1) q))
+      (λ a q. ap (λ (p : Pose). turnLoss (g .goals) c (tipOf (g .tools) c p) a) (poses (chainStart (g .counts) c + getD (g .counts) c 0 - 1) q)))
       (λ j h q. ap (λ (v : Float). eachJointLimits v (getD (g .limits) (2 * j) nan) (getD (g .limits) (2 * j + 1) nan)) (values j q))
       (λ q. absurd (true≢false q)) (λ q. absurd (true≢false q)) (λ q. absurd (true≢false q)) (λ q. absurd (true≢false q))
       (λ c j k h a b q.
@@ -117,8 +118,8 @@ losses-ext g P Q x chains paired same =
     let lens : List ℕ = chainLengths ns cs in
     let w : total ns ≡ length cs = paired .counted .whole in
     let n : length lens ≡ length ns = lengths-count ns cs in
-    let last : (c : ℕ) → c < length lens → endOf ns P c ≡ endOf ns Q c =
-    λ c h. same (chainStart ns c + getD ns c 0 - 1) (omega (arith, chain-within ns c (omega arith), chains .some c (omega arith))) in
+    let last : (c : ℕ) → c < length lens → endOf ns (g .tools) P c ≡ endOf ns (g .tools) Q c =
+    λ c h. ap (tipOf (g .tools) c) (same (chainStart ns c + getD ns c 0 - 1) (omega (arith, chain-within ns c (omega arith), chains .some c (omega arith)))) in
     let Same : Objective → Type 0 = λ o. lossOf g P x o ≡ lossOf g Q x o in
     map-same (lossOf g P x) (lossOf g Q x) (objectives sourceList lens)
     (objectives-each Same sourceList lens

@@ -9,6 +9,7 @@ use manipulability::robot;
 use manipulability::view;
 use self_collision::pairs;
 use spacetime::floats;
+use spacetime::tool;
 use standins::cut;
 use task::parts;
 ghost use mathlib.Core.Path.{_≡_};
@@ -19,6 +20,7 @@ ghost use Rattle.lists.specs.Runs.{runs};
 ghost use Rattle.sheet.specs.Chain.{total};
 ghost use Rattle.task.specs.Task.{taskLength, xoptOf, prevStateOf, prevState2Of, givenOf, givenIn};
 ghost use Rattle.spacetime.specs.Floats.{flatVec};
+ghost use Rattle.spacetime.specs.Tool.{tipOf};
 ghost use Rattle.spacetime.specs.Frames.{Chains};
 ghost use Rattle.manipulability.specs.View.{viewOf, View, walkedAgain};
 ghost use Rattle.manipulability.specs.Jacobian.{Counted};
@@ -99,6 +101,7 @@ fn put_pose_losses(goals: &[f64], c: usize, end: Pose, at: usize, out: &mut [f64
 // Chain c's goal. If its last link was not walked again, its losses stand already.
 fn put_goal(
     goals: &[f64],
+    tools: &[f64],
     base: &[f64],
     tail: &[f64],
     from: usize,
@@ -107,15 +110,16 @@ fn put_goal(
     c: usize,
     out: &mut [f64],
 )
-    requires { ⌜ (13 * c + 13 ≤ length (now goals)) × (goalWidth * c + goalWidth ≤ length (now out)) ⌝ }
+    requires { ⌜ (13 * c + 13 ≤ length (now goals)) × (8 * c + 8 ≤ length (now tools)) × (goalWidth * c + goalWidth ≤ length (now out)) ⌝ }
     requires { ⌜ View (now base) (now tail) from to (link + 1) ⌝ }
     requires { ⌜ CachedPiece (walkedAgain from to link) (goalWidth * c)
-        (poseLosses (now goals) c (viewOf (now base) (now tail) from to link)) (now out) ⌝ }
+        (poseLosses (now goals) c (tipOf (now tools) c (viewOf (now base) (now tail) from to link))) (now out) ⌝ }
     ensures { λ _. ⌜ now (out .exit) ≡ splice (now (out .entry)) (goalWidth * c)
-        (poseLosses (now (goals .entry)) c (viewOf (now (base .entry)) (now (tail .entry)) from to link)) ⌝ }
+        (poseLosses (now (goals .entry)) c (tipOf (now (tools .entry)) c (viewOf (now (base .entry)) (now (tail .entry)) from to link))) ⌝ }
 {
     if view::walked_again(from, to, link) {
-        let end = view::pose(base, tail, from, to, link);
+        let last = view::pose(base, tail, from, to, link);
+        let end = tool::tip(tools, c, last);
         put_pose_losses(goals, c, end, GOAL_WIDTH * c, out);
         return;
     }
@@ -125,24 +129,25 @@ fn put_goal(
 fn put_goals(
     counts: &[u16],
     goals: &[f64],
+    tools: &[f64],
     base: &[f64],
     tail: &[f64],
     from: usize,
     to: usize,
     out: &mut [f64],
 )
-    requires { ⌜ Chains (now counts) × (13 * length (now counts) ≤ length (now goals)) ⌝ }
+    requires { ⌜ Chains (now counts) × (13 * length (now counts) ≤ length (now goals)) × (8 * length (now counts) ≤ length (now tools)) ⌝ }
     requires { ⌜ View (now base) (now tail) from to (total (now counts)) ⌝ }
-    requires { ⌜ CachedPieces (goalLosses (now counts) (now goals) (viewOf (now base) (now tail) from to)) goalWidth
+    requires { ⌜ CachedPieces (goalLosses (now counts) (now goals) (now tools) (viewOf (now base) (now tail) from to)) goalWidth
         (endAgain (now counts) from to) 0 (length (now counts)) (now out) ⌝ }
     ensures { λ _. ⌜ now (out .exit) ≡ splice (now (out .entry)) 0
-        (runs (goalLosses (now (counts .entry)) (now (goals .entry)) (viewOf (now (base .entry)) (now (tail .entry)) from to)) 0 (length (now (counts .entry)))) ⌝ }
+        (runs (goalLosses (now (counts .entry)) (now (goals .entry)) (now (tools .entry)) (viewOf (now (base .entry)) (now (tail .entry)) from to)) 0 (length (now (counts .entry)))) ⌝ }
 {
     let mut l: usize = 0;
     let mut c = 0;
     while c < counts.len() {
         let end = l + counts[c] as usize;
-        put_goal(goals, base, tail, from, to, end - 1, c, out);
+        put_goal(goals, tools, base, tail, from, to, end - 1, c, out);
         l = end;
         c += 1;
     }
@@ -242,7 +247,17 @@ pub fn put_losses(
         (lossesOf (givenIn counts codes task) (viewOf (now (base .entry)) (now (tail .entry)) (walked .from) (walked .to)) (now (x .entry))) ⌝ }
 {
     let goals = parts::goals(task, counts.len());
-    put_goals(counts, goals, base, tail, walked.from, walked.to, out);
+    let tools = parts::tools(task, counts.len());
+    put_goals(
+        counts,
+        goals,
+        tools,
+        base,
+        tail,
+        walked.from,
+        walked.to,
+        out,
+    );
     let n = GOAL_WIDTH * counts.len();
     let limits = parts::limits(task, x.len());
     put_limits(limits, x, walked.joint, n, out);

@@ -3,4 +3,4 @@ pub mod OneBlockLaws
 pub mod Numbers
 pub mod Ragged
 pub mod Planned
-pub mod Weights
+pub mod LeftOut

@@ -7,24 +7,24 @@ use lib.Ieee.{Float}
 use Rattle.lists.specs.Splice.{splice}
 use Rattle.refusals.specs.Lengths.{slopesLength, valueLength}
 use Rattle.refusals.specs.Lowest.{firstOf}
-use Rattle.refusals.specs.Refusal.{linksOf, roomRefusal, weightsRefusal}
+use Rattle.refusals.specs.Refusal.{linksOf, roomRefusal}
 use Rattle.one_block.specs.Record.{entriesOf, recordJoints, recordLinks, recordPoses}
 use Rattle.calls.specs.OneBlock.{recordRefusal}
 use Rattle.lists.specs.Lent.{lent, LentList}
 use Rattle.lent_bytes.specs.SheetLists.{SheetLists}
 use Rattle.arm_bytes.specs.ArmCalls.{outputOf, numbersOutputOf}
-use Rattle.objective_bytes.specs.ObjectiveCalls.{TaskLists, taskNumber}
+use Rattle.objective_bytes.specs.ObjectiveCalls.{TaskLists, taskNumber, optionalNumber}
 
 -- the record's entries
 abbrev pub entriesIn : SheetLists → ℕ
 entriesIn s = entriesOf (linksOf (s .sizes)) (s .codes)
 
--- 1 to 8, then 9 for any output, then 10; rooms are in floats, and in u16s for joints rj and links rl
+-- 1 to 8, then 9 for any output, then 10 and 11; rooms are in floats, and in u16s for joints rj and links rl
 unfoldable pub oneBlockNumber : SheetLists → TaskLists → List Float → ℕ → ℕ → ℕ → ℕ → ℕ → ℕ
 oneBlockNumber s t x value slopes rj rl rp =
     firstOf (taskNumber s (t .goals) (t .history) x)
     (firstOf (roomRefusal valueLength value)
-    (firstOf (roomRefusal (slopesLength (s .codes)) slopes) (firstOf (recordRefusal (entriesIn s) rj rl rp) (weightsRefusal (t .weights)))))
+    (firstOf (roomRefusal (slopesLength (s .codes)) slopes) (firstOf (recordRefusal (entriesIn s) rj rl rp) (optionalNumber s t))))
 
 -- the record's three lists
 unfoldable pub recordJointsIn : SheetLists → List ℕ

@@ -8,7 +8,7 @@ use native.Mathlib.Omega.{arith}
 use lib.Ieee.{Float}
 use Rattle.refusals.specs.Lengths.{slopesLength, valueLength, recordPosesLength}
 use Rattle.refusals.specs.Lowest.{firstOf, first-zero, first-some, first-is, first-most}
-use Rattle.refusals.specs.Refusal.{chainsOf, badWeights, roomRefusal, weightsRefusal}
+use Rattle.refusals.specs.Refusal.{chainsOf, badWeights, badTools, roomRefusal, weightsRefusal, toolsRefusal}
 use Rattle.refusals.specs.Passed.{load-most, block-most, history-most, goals-most, room-enough, room-behind}
 use Rattle.calls.specs.OneBlock.{recordRefusal}
 use Rattle.sizing.specs.Sizing.{planOf}
@@ -16,7 +16,7 @@ use Rattle.sizing.specs.Planned.{RecordRoom, RecordShort, record-room, record-s
 use Rattle.lent_bytes.specs.Lent.{roomIn, numberRoomIn, room-within, number-room-within, room-whole, number-room-whole}
 use Rattle.lent_bytes.specs.SheetLists.{SheetLists, same-three}
 use Rattle.arm_bytes.specs.Planned.{planIn}
-use Rattle.objective_bytes.specs.ObjectiveCalls.{TaskLists, taskNumber}
+use Rattle.objective_bytes.specs.ObjectiveCalls.{TaskLists, taskNumber, optionalNumber}
 use Rattle.one_block_bytes.specs.OneBlockCalls.{entriesIn, oneBlockNumber}
 
 -- a plan's entries are those that the call asks
@@ -24,13 +24,14 @@ planned-entries : (s : SheetLists) → planIn s .entries ≡ entriesIn s
 unfolding planOf
 planned-entries s = refl
 
-weights-not-nine : (ws : List Float) → weightsRefusal ws ≡ 9 → ⊥
-unfolding weightsRefusal
-weights-not-nine ws e = pick (badWeights ws) e
+optional-not-nine : (s : SheetLists) (t : TaskLists) → optionalNumber s t ≡ 9 → ⊥
+unfolding optionalNumber weightsRefusal toolsRefusal firstOf
+optional-not-nine s t e = pick (badWeights (t .weights)) (badTools (chainsOf (s .sizes)) (t .tools)) e
   where
-    pick : (t : Bool) → _≡_ {A = ℕ} (cond t 10 0) 9 → ⊥
-    pick true e = omega arith
-    pick false e = omega arith
+    pick : (a b : Bool) → firstOf (cond a 10 0) (cond b 11 0) ≡ 9 → ⊥
+    pick true b e = omega arith
+    pick false true e = omega arith
+    pick false false e = omega arith
 
 -- a number below 9, or else one that is not 9
 never-nine : (a b : ℕ) → a ≤ 8 → (b ≡ 9 → ⊥) → firstOf a b ≡ 9 → ⊥
@@ -50,7 +51,7 @@ module _ (s : SheetLists) (t : TaskLists) (x : List Float) where
   -- a record of rj joints, rl links and rp floats of poses, of the planned lengths or longer: none has a part in the number
   pub one-block-bytes-planned : (value slopes rj rl rp : ℕ) → RecordRoom (planIn s) rj rl rp
       → oneBlockNumber s t x value slopes (numberRoomIn (2 * rj)) (numberRoomIn (2 * rl)) (roomIn (8 * rp))
-      ≡ firstOf (taskNumber s (t .goals) (t .history) x) (firstOf (roomRefusal valueLength value) (firstOf (roomRefusal (slopesLength (s .codes)) slopes) (weightsRefusal (t .weights))))
+      ≡ firstOf (taskNumber s (t .goals) (t .history) x) (firstOf (roomRefusal valueLength value) (firstOf (roomRefusal (slopesLength (s .codes)) slopes) (optionalNumber s t)))
   unfolding oneBlockNumber
   one-block-bytes-planned value slopes rj rl rp h =
       ap (λ (n : ℕ). firstOf (taskNumber s (t .goals) (t .history) x) (firstOf (roomRefusal valueLength value) (firstOf (roomRefusal (slopesLength (s .codes)) slopes) n)))
@@ -65,7 +66,7 @@ module _ (s : SheetLists) (t : TaskLists) (x : List Float) where
   one-block-bytes-never-nine value slopes rj rl rp v l h nine =
       let known = one-block-bytes-planned value slopes rj rl rp h
       ∙ ap (firstOf (taskNumber s (t .goals) (t .history) x)) (first-zero _ _ (room-enough valueLength value v) ∙ first-zero _ _ (room-enough (slopesLength (s .codes)) slopes l)) in
-      never-nine _ _ task-most (weights-not-nine (t .weights)) (sym known ∙ nine)
+      never-nine _ _ task-most (optional-not-nine s t) (sym known ∙ nine)
 
   -- with fewer bytes in any of the three it is 9, where no number below 9 applies
   pub one-block-bytes-short : (value slopes j l p : ℕ) → taskNumber s (t .goals) (t .history) x ≡ 0

@@ -1,5 +1,5 @@
 -- A byte list that is ragged, or longer than any that is taken, is refused with that list's number. Up to 8 it is the number that load gets for the sheet's
--- lists (arm_bytes, Ragged), and the objective for joints, history and goals (objective_bytes, Ragged); a ragged output 9; weights 10. Lower numbers come first, as ever.
+-- lists (arm_bytes, Ragged), and the objective for joints, history and goals (objective_bytes, Ragged); a ragged output 9; weights 10, tools 11. Lower numbers come first, as ever.
 use mathlib.Core.Path.{_≡_, _∙_}
 use mathlib.Core.List.{List}
 use Prim.Native.Nat.{ℕ, suc, _*_, _%_, _≤_}
@@ -9,7 +9,7 @@ use lib.ListN.{length}
 use Rattle.sheet.specs.Chain.{joints, joint-le, joint-last}
 use Rattle.refusals.specs.Lowest.{first-zero, first-is, first-none}
 use Rattle.refusals.specs.Lengths.{slopesLength, valueLength}
-use Rattle.refusals.specs.Refusal.{roomRefusal, weightsRefusal}
+use Rattle.refusals.specs.Refusal.{roomRefusal}
 use Rattle.refusals.specs.Passed.{room-behind}
 use Rattle.one_block.specs.Record.{entriesOf}
 use Rattle.calls.specs.OneBlock.{recordRefusal}
@@ -17,7 +17,7 @@ use Rattle.lent_bytes.specs.Lent.{roomIn, numberRoomIn}
 use Rattle.lent_bytes.specs.SheetLists.{SheetLists}
 use Rattle.arm_bytes.specs.ArmCalls.{loadNumber}
 use Rattle.arm_bytes.specs.Ragged.{after, ragged-output, ragged-numbers, moving}
-use Rattle.objective_bytes.specs.ObjectiveCalls.{TaskLists, taskNumber}
+use Rattle.objective_bytes.specs.ObjectiveCalls.{TaskLists, taskNumber, optionalNumber}
 use Rattle.one_block_bytes.specs.OneBlockCalls.{entriesIn, oneBlockNumber}
 
 -- a call that is refused with one of 1 to 8
@@ -76,8 +76,8 @@ module _ (s : SheetLists) (t : TaskLists) (x : List Float) (q : taskNumber s (t 
         record-refused value slopes rj (numberRoomIn n) rp
         (room-behind (entriesIn s) rj _ (first-is _ _ 8 (ragged-numbers (entriesIn s) n entries-some m)))
 
-  -- weights that are refused, where nothing else is
-  pub one-block-refused-weights : (value slopes rj rl rp : ℕ) → roomRefusal valueLength value ≡ 0 → roomRefusal (slopesLength (s .codes)) slopes ≡ 0
-      → recordRefusal (entriesIn s) rj rl rp ≡ 0 → weightsRefusal (t .weights) ≡ 10 → oneBlockNumber s t x value slopes rj rl rp ≡ 10
+  -- weights or tools that are refused, where nothing else is
+  pub one-block-refused-optional : (value slopes rj rl rp : ℕ) → roomRefusal valueLength value ≡ 0 → roomRefusal (slopesLength (s .codes)) slopes ≡ 0
+      → recordRefusal (entriesIn s) rj rl rp ≡ 0 → oneBlockNumber s t x value slopes rj rl rp ≡ optionalNumber s t
   unfolding oneBlockNumber
-  one-block-refused-weights value slopes rj rl rp v d r ten = first-zero _ _ q ∙ first-zero _ _ v ∙ first-zero _ _ d ∙ first-zero _ _ r ∙ ten
+  one-block-refused-optional value slopes rj rl rp v d r = first-zero _ _ q ∙ first-zero _ _ v ∙ first-zero _ _ d ∙ first-zero _ _ r

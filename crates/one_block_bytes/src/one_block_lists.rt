@@ -37,6 +37,7 @@ fn one_block_number(
     goals: &[f64],
     history: &[f64],
     weights: &[f64],
+    tools: &[f64; 32],
     joints: &[f64],
     value: usize,
     slopes: usize,
@@ -44,7 +45,7 @@ fn one_block_number(
     record_links: usize,
     record_poses: usize,
 ) -> u16
-    ensures { λ r. ⌜ r ≡ oneBlockNumber (sheetOf sizes codes floats limits) (taskOf goals history weights) (lent joints)
+    ensures { λ r. ⌜ r ≡ oneBlockNumber (sheetOf sizes codes floats limits) (taskOf goals history weights tools) (lent joints)
         (roomIn value) (roomIn slopes) (numberRoomIn «record_joints») (numberRoomIn «record_links») (roomIn «record_poses») ⌝ }
 {
     let of_task = objective_lists::task_number(
@@ -68,8 +69,8 @@ fn one_block_number(
         bytes_lent::number_room(record_links),
         bytes_lent::room(record_poses),
     );
-    let ten = lent::weights_refusal(weights);
-    lent::first_of(first, lent::first_of(second, lent::first_of(third, ten)))
+    let last = objective_lists::optional_number(sizes, weights, tools);
+    lent::first_of(first, lent::first_of(second, lent::first_of(third, last)))
 }
 
 // Value, slopes and record of the decoded block.
@@ -81,23 +82,32 @@ fn one_block_on(
     goals: &[f64],
     history: &[f64],
     weights: &[f64],
+    tools: &[f64; 32],
     block: &mut [f64],
     slopes: &mut [f64],
     record_joints: &mut [u16],
     record_links: &mut [u16],
     record_poses: &mut [f64],
 ) -> f64
-    requires { ⌜ Passed (sheetWith (now sizes) (now codes) (now floats) (now limits)) (taskWith (now goals) (now history) (now weights)) (now block) ⌝ }
+    requires { ⌜ Passed (sheetWith (now sizes) (now codes) (now floats) (now limits)) (taskWith (now goals) (now history) (now weights) (now tools)) (now block) ⌝ }
     requires { ⌜ (length (now slopes) ≡ 16) × (length (now «record_joints») ≡ 320) × (length (now «record_links») ≡ 320) ⌝ }
     requires { ⌜ 7 * entriesIn (sheetWith (now sizes) (now codes) (now floats) (now limits)) ≤ length (now «record_poses») ⌝ }
-    ensures { λ r. ⌜ r ≡ valueIn (sheetOf sizes codes floats limits) (taskOf goals history weights) (lent block) ⌝ }
+    ensures { λ r. ⌜ r ≡ valueIn (sheetOf sizes codes floats limits) (taskOf goals history weights tools) (lent block) ⌝ }
     ensures { λ _. ⌜ now (block .exit) ≡ now (block .entry) ⌝ }
-    ensures { λ _. ⌜ now (slopes .exit) ≡ splice (lent slopes) 0 (gradientSlopes (sheetOf sizes codes floats limits) (taskOf goals history weights) (lent block)) ⌝ }
+    ensures { λ _. ⌜ now (slopes .exit) ≡ splice (lent slopes) 0 (gradientSlopes (sheetOf sizes codes floats limits) (taskOf goals history weights tools) (lent block)) ⌝ }
     ensures { λ _. ⌜ RecordHeld (sheetOf sizes codes floats limits) (lent block) «record_joints» «record_links» «record_poses» ⌝ }
 {
     let counts = shape::links(sizes);
     let mut task = [0.0; task::LENGTH];
-    lay::lay_lent(weights, limits, goals, history, block.len(), &mut task);
+    lay::lay_lent(
+        weights,
+        limits,
+        goals,
+        history,
+        tools,
+        block.len(),
+        &mut task,
+    );
     grad::gradient(
         counts,
         codes,
@@ -153,6 +163,7 @@ fn put_one_block(
     goals: &[f64],
     history: &[f64],
     weights: &[f64],
+    tools: &[f64; 32],
     block: &mut [f64],
     poses: &mut [f64],
     value: &mut [u8],
@@ -161,11 +172,11 @@ fn put_one_block(
     record_links: &mut [u8],
     record_poses: &mut [u8],
 )
-    requires { ⌜ Fitted (sheetWith (now sizes) (now codes) (now floats) (now limits)) (taskWith (now goals) (now history) (now weights)) (now block)
+    requires { ⌜ Fitted (sheetWith (now sizes) (now codes) (now floats) (now limits)) (taskWith (now goals) (now history) (now weights) (now tools)) (now block)
         (length (now value)) (length (now slopes)) (length (now «record_joints»)) (length (now «record_links»)) (length (now «record_poses»)) ⌝ }
     requires { ⌜ 7 * entriesIn (sheetWith (now sizes) (now codes) (now floats) (now limits)) ≤ length (now poses) ⌝ }
-    ensures { λ _. ⌜ now (value .exit) ≡ outputOf 0 value (objectiveValue (sheetOf sizes codes floats limits) (taskOf goals history weights) (lent block)) ⌝ }
-    ensures { λ _. ⌜ now (slopes .exit) ≡ outputOf 0 slopes (gradientSlopes (sheetOf sizes codes floats limits) (taskOf goals history weights) (lent block)) ⌝ }
+    ensures { λ _. ⌜ now (value .exit) ≡ outputOf 0 value (objectiveValue (sheetOf sizes codes floats limits) (taskOf goals history weights tools) (lent block)) ⌝ }
+    ensures { λ _. ⌜ now (slopes .exit) ≡ outputOf 0 slopes (gradientSlopes (sheetOf sizes codes floats limits) (taskOf goals history weights tools) (lent block)) ⌝ }
     ensures { λ _. ⌜ RecordWritten 0 (sheetOf sizes codes floats limits) (lent block) «record_joints» «record_links» «record_poses» ⌝ }
 {
     let mut d = [0.0; 16];
@@ -179,6 +190,7 @@ fn put_one_block(
         goals,
         history,
         weights,
+        tools,
         block,
         &mut d,
         &mut rj,
@@ -207,6 +219,7 @@ pub(crate) fn gradient_one_block(
     goals: &[f64],
     history: &[f64],
     weights: &[f64],
+    tools: &[f64; 32],
     block: &mut [f64],
     value: &mut [u8],
     slopes: &mut [u8],
@@ -214,10 +227,10 @@ pub(crate) fn gradient_one_block(
     record_links: &mut [u8],
     record_poses: &mut [u8],
 ) -> u16
-    ensures number { λ r. ⌜ r ≡ oneBlockNumber (sheetOf sizes codes floats limits) (taskOf goals history weights) (lent block)
+    ensures number { λ r. ⌜ r ≡ oneBlockNumber (sheetOf sizes codes floats limits) (taskOf goals history weights tools) (lent block)
         (roomOf value) (roomOf slopes) (numberRoomOf «record_joints») (numberRoomOf «record_links») (roomOf «record_poses») ⌝ }
-    ensures value { λ r. ⌜ now (value .exit) ≡ outputOf r value (objectiveValue (sheetOf sizes codes floats limits) (taskOf goals history weights) (lent block)) ⌝ }
-    ensures slopes { λ r. ⌜ now (slopes .exit) ≡ outputOf r slopes (gradientSlopes (sheetOf sizes codes floats limits) (taskOf goals history weights) (lent block)) ⌝ }
+    ensures value { λ r. ⌜ now (value .exit) ≡ outputOf r value (objectiveValue (sheetOf sizes codes floats limits) (taskOf goals history weights tools) (lent block)) ⌝ }
+    ensures slopes { λ r. ⌜ now (slopes .exit) ≡ outputOf r slopes (gradientSlopes (sheetOf sizes codes floats limits) (taskOf goals history weights tools) (lent block)) ⌝ }
     ensures record { λ r. ⌜ RecordWritten r (sheetOf sizes codes floats limits) (lent block) «record_joints» «record_links» «record_poses» ⌝ }
 {
     let number = one_block_number(
@@ -228,6 +241,7 @@ pub(crate) fn gradient_one_block(
         goals,
         history,
         weights,
+        tools,
         block,
         value.len(),
         slopes.len(),
@@ -248,6 +262,7 @@ pub(crate) fn gradient_one_block(
             goals,
             history,
             weights,
+            tools,
             block,
             &mut few,
             value,
@@ -267,6 +282,7 @@ pub(crate) fn gradient_one_block(
         goals,
         history,
         weights,
+        tools,
         block,
         &mut most,
         value,

@@ -1,4 +1,4 @@
--- How long a call's lists are, each length said once: 7 asks it of a joint block and a history, 9 of every output, scratch and record list.
+-- How long a call's lists are, each length said once: 7 asks it of a joint block and a history, 9 of every output, scratch and record list, 10 of weights, 11 of a tool.
 -- ns are the links per chain, cs the codes. The record's entries are `entriesOf` (one_block), the objectives the list `objectives` (objective_master).
 use mathlib.Core.Path.{_≡_, refl}
 use mathlib.Core.List.{List, [], _∷_}
@@ -43,6 +43,10 @@ valueLength = 1
 -- the weights: one a kind of objective
 abbrev pub weightsLength : ℕ
 weightsLength = 8
+
+-- a tool: displacement and offset
+abbrev pub toolLength : ℕ
+toolLength = 7
 
 -- what sizing writes: four u16s
 abbrev pub planLength : ℕ

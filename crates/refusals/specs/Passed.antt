@@ -7,12 +7,12 @@ use native.Mathlib.Omega.{arith}
 use lib.Dec.{leb, ltb, eqb}
 use lib.Ieee.{Float}
 use lib.ListN.{length, getD, length-drop}
-use borrow.Author.Tests.{ltb-false, le-ltb, lt-ltb, leb-true, eqb-true, ne-eqb, not-false}
+use borrow.Author.Tests.{ltb-true, ltb-false, le-ltb, lt-ltb, leb-true, eqb-true, ne-eqb, not-false}
 use Rattle.sheet.specs.Chain.{total, joints, chainLength}
 use Rattle.lists.specs.Tests.{and-true}
 use Rattle.refusals.specs.Range.{every-at, between}
 use Rattle.refusals.specs.Lowest.{lowestFrom, lowest, lowest-found, lowest-none, none-lowest, lowest-most, firstOf, first-zero, first-is, first-none}
-use Rattle.refusals.specs.Refusal.{chainsOf, linksOf, linksFit, badSizes, badLengths, listedCode, listedAt, badCodes, twoJoints, laterFits, badJoints, badLimits, badFloats, badBlock, badHistory, badGoals, badWeights, shapeConditions, shapeRefusal, sheetConditions, loadConditions, loadRefusal, sizingRefusal, blockRefusal, historyRefusal, goalsRefusal, roomRefusal, weightsRefusal}
+use Rattle.refusals.specs.Refusal.{chainsOf, linksOf, linksFit, badSizes, badLengths, listedCode, listedAt, badCodes, twoJoints, laterFits, badJoints, badLimits, badFloats, badBlock, badHistory, badGoals, badWeights, badTool, shapeConditions, shapeRefusal, sheetConditions, loadConditions, loadRefusal, sizingRefusal, blockRefusal, historyRefusal, goalsRefusal, roomRefusal, weightsRefusal, toolRefusal}
 
 -- ---- loading: the number is that of the lowest condition that holds, and 0 exactly if none does
 module _ (sizes codes : List ℕ) (floats limits : List Float) where
@@ -200,6 +200,13 @@ weights-passed ws e = eqb-true _ _ (not-false _ (or-none _ _ (passed _ 9 e) .0))
 pub weights-misfit : (ws : List Float) → (length ws ≡ 8 → ⊥) → weightsRefusal ws ≡ 10
 unfolding weightsRefusal badWeights
 weights-misfit ws h = rw (ne-eqb (length ws) 8 h)
+
+pub tool-passed : (chains c : ℕ) (tool : List Float) → toolRefusal chains c tool ≡ 0 → (c < chains) × (length tool ≡ 7)
+unfolding toolRefusal badTool
+tool-passed chains c tool e =
+    let a = or-none _ _ (passed _ 10 e) in
+    let b = or-none _ _ (a .0) in
+    (ltb-true _ _ (not-false _ (b .0)), eqb-true _ _ (not-false _ (b .1)))
 
 -- a list with room for all that is needed
 pub room-enough : (needed have : ℕ) → needed ≤ have → roomRefusal needed have ≡ 0

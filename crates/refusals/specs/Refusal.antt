@@ -10,10 +10,11 @@ use Rattle.sheet.specs.declared.code.Kind.{Kind}
 use Rattle.sheet.specs.declared.code.Kind.the-variants.{Fixed, Turning, Sliding, Unlisted}
 use Rattle.sheet.specs.Code.{hasJoint, kindOf}
 use Rattle.sheet.specs.Chain.{total, jointOf, joints, chainLength}
+use Rattle.sheet.specs.Tool.{hasTool}
 use Rattle.groove.specs.Loss.{freeOf}
 use Rattle.refusals.specs.Range.{every, between, within, withinAt, unitAt}
 use Rattle.refusals.specs.Lowest.{lowest}
-use Rattle.refusals.specs.Lengths.{blockLength, historyLength, weightsLength}
+use Rattle.refusals.specs.Lengths.{blockLength, historyLength, weightsLength, toolLength}
 
 -- the sizes list: the chain count, then the links per chain
 abbrev pub chainsOf : List ℕ → ℕ
@@ -90,9 +91,13 @@ limitsFit limits j = pairFits (getD limits (2 * j) nan) (getD limits (2 * j + 1)
 unfoldable pub badLimits : ℕ → List Float → Bool
 badLimits joints limits = not (eqb (length limits) (2 * joints)) || not (every (limitsFit limits) joints)
 
--- link l's seven floats fit: the displacement within -10..10, the offset's squares' sum near 1
+-- the seven floats from at on fit a link: the displacement within -10..10, the offset's squares' sum near 1
+unfoldable pub sevenFit : List Float → ℕ → Bool
+sevenFit floats at = every (withinAt (ofBits binary64 0x4024_0000_0000_0000) floats at) 3 && unitAt floats (at + 3)
+
+-- link l's seven floats fit
 unfoldable pub linkFits : List Float → ℕ → Bool
-linkFits floats l = every (withinAt (ofBits binary64 0x4024_0000_0000_0000) floats (7 * l)) 3 && unitAt floats (7 * l + 3)
+linkFits floats l = sevenFit floats (7 * l)
 
 -- 6. Displacement not within -10..10; offset whose squares' sum is outside 0.999999999..1.000000001.
 unfoldable pub badFloats : ℕ → List Float → Bool
@@ -151,6 +156,18 @@ weightFitsAt ws k = weightFits (getD ws k nan)
 unfoldable pub badWeights : List Float → Bool
 badWeights ws = not (eqb (length ws) weightsLength) || not (every (weightFitsAt ws) weightsLength)
 
+-- 11. A chain not loaded, a tool not of seven floats, or one that does not fit a link.
+unfoldable pub badTool : ℕ → ℕ → List Float → Bool
+badTool chains c tool = not (ltb c chains) || not (eqb (length tool) toolLength) || not (sevenFit tool 0)
+
+-- of tools by chain, eight floats each: chain c has none, or it is loaded and the tool fits a link
+unfoldable pub toolFits : ℕ → List Float → ℕ → Bool
+toolFits chains tools c = not (hasTool tools c) || ltb c chains && sevenFit tools (8 * c + 1)
+
+-- 11. Of four chains' tools: one for a chain not loaded, or one that does not fit a link. (A list not of seven floats stands there as NaNs, which fit none)
+unfoldable pub badTools : ℕ → List Float → Bool
+badTools chains tools = not (every (toolFits chains tools) 4)
+
 -- ---- the numbers
 -- of a sheet's lengths and codes: conditions 1 to 4
 abbrev pub shapeConditions : List ℕ → List ℕ → ℕ → List Bool
@@ -198,3 +215,11 @@ roomRefusal needed have = cond (ltb have needed) 9 0
 -- of weights
 unfoldable pub weightsRefusal : List Float → ℕ
 weightsRefusal ws = cond (badWeights ws) 10 0
+
+-- of a tool for chain c
+unfoldable pub toolRefusal : ℕ → ℕ → List Float → ℕ
+toolRefusal chains c tool = cond (badTool chains c tool) 11 0
+
+-- of four chains' tools
+unfoldable pub toolsRefusal : ℕ → List Float → ℕ
+toolsRefusal chains tools = cond (badTools chains tools) 11 0

@@ -13,7 +13,7 @@ use borrow.Author.Tests.{leb-true, le-leb}
 use Rattle.sheet.specs.Chain.{joints}
 use Rattle.lists.specs.Tests.{and-true}
 use Rattle.refusals.specs.Lowest.{lowestFrom, lowest, firstOf, first-zero, first-some, first-last}
-use Rattle.refusals.specs.Refusal.{linksOf, badSizes, badLengths, badCodes, badJoints, badLimits, badFloats, badBlock, badHistory, badGoals, badWeights, loadRefusal, sizingRefusal, blockRefusal, historyRefusal, goalsRefusal, roomRefusal, weightsRefusal}
+use Rattle.refusals.specs.Refusal.{linksOf, badSizes, badLengths, badCodes, badJoints, badLimits, badFloats, badBlock, badHistory, badGoals, badWeights, badTool, badTools, loadRefusal, sizingRefusal, blockRefusal, historyRefusal, goalsRefusal, roomRefusal, weightsRefusal, toolRefusal, toolsRefusal}
 
 -- a condition and the number with which it refuses
 pub record Row : Type 0 where
@@ -86,6 +86,12 @@ roomRow needed have = row 9 (ltb have needed)
 
 abbrev pub weightsRow : List Float → Row
 weightsRow ws = row 10 (badWeights ws)
+
+abbrev pub toolRow : ℕ → ℕ → List Float → Row
+toolRow chains c tool = row 11 (badTool chains c tool)
+
+abbrev pub toolsRow : ℕ → List Float → Row
+toolsRow chains tools = row 11 (badTools chains tools)
 
 -- ---- laws: the first row is the lowest
 up-least : (k : ℕ) (rs : List Row) (i : ℕ) → upFrom k rs ≡ true → rowAt rs i .holds ≡ true → k ≤ rowAt rs i .number
@@ -165,6 +171,14 @@ room-row needed have rs = then-row 8 (ltb have needed) rs
 pub weights-row : (ws : List Float) (rs : List Row) → firstOf (weightsRefusal ws) (firstRow rs) ≡ firstRow (weightsRow ws ∷ rs)
 unfolding weightsRefusal
 weights-row ws rs = then-row 9 (badWeights ws) rs
+
+pub tool-row : (chains c : ℕ) (tool : List Float) (rs : List Row) → firstOf (toolRefusal chains c tool) (firstRow rs) ≡ firstRow (toolRow chains c tool ∷ rs)
+unfolding toolRefusal
+tool-row chains c tool rs = then-row 10 (badTool chains c tool) rs
+
+pub tools-row : (chains : ℕ) (tools : List Float) (rs : List Row) → firstOf (toolsRefusal chains tools) (firstRow rs) ≡ firstRow (toolsRow chains tools ∷ rs)
+unfolding toolsRefusal
+tools-row chains tools rs = then-row 10 (badTools chains tools) rs
 
 -- a number with no more to come
 pub alone : (a n : ℕ) → firstOf a (firstRow []) ≡ n → a ≡ n

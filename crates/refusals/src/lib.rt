@@ -4,3 +4,4 @@ pub mod lent;
 pub mod load;
 mod range;
 pub mod shape;
+pub mod tools;

@@ -10,7 +10,7 @@ ghost use Prim.Native.Nat.{_+_, _*_, _≤_};
 ghost use lib.ListN.{length};
 ghost use Rattle.sheet.specs.Chain.{joints};
 ghost use Rattle.refusals.specs.Lowest.{lowest};
-ghost use Rattle.refusals.specs.Refusal.{rangedPair, pairFits, badLimits, linkFits, badFloats, sheetConditions, loadRefusal, sizingRefusal};
+ghost use Rattle.refusals.specs.Refusal.{rangedPair, pairFits, badLimits, sevenFit, linkFits, badFloats, sheetConditions, loadRefusal, sizingRefusal};
 
 fn ranged(lower: f64, upper: f64) -> bool
     ensures { λ r. ⌜ r ≡ rangedPair lower upper ⌝ }
@@ -46,11 +46,19 @@ fn limits_refusal(joints: usize, limits: &[f64]) -> u16
     if ok { 0 } else { 5 }
 }
 
+// Whether the seven floats from `at` are in a link's range.
+pub(crate) fn seven_fit(floats: &[f64], at: usize) -> bool
+    requires { ⌜ at + 7 ≤ length (now floats) ⌝ }
+    ensures { λ r. ⌜ r ≡ sevenFit (now (floats .entry)) at ⌝ }
+{
+    range::all_within(10.0, floats, at, 3) && range::unit(floats, at + 3)
+}
+
 fn link_fits(floats: &[f64], link: usize) -> bool
     requires { ⌜ 7 * link + 7 ≤ length (now floats) ⌝ }
     ensures { λ r. ⌜ r ≡ linkFits (now (floats .entry)) link ⌝ }
 {
-    range::all_within(10.0, floats, 7 * link, 3) && range::unit(floats, 7 * link + 3)
+    seven_fit(floats, 7 * link)
 }
 
 fn floats_refusal(links: usize, floats: &[f64]) -> u16

@@ -25,7 +25,7 @@ use Rattle.lent_bytes.specs.Lent.{floatsIn, bytesOf}
 use Rattle.stored_answers.specs.Stored.{numberAt, listOf}
 use Rattle.stored_answers.specs.Agree.{answerAgrees}
 use Rattle.spacetime.specs.Floats.{flatVec, flatQuat}
-use Rattle.replay.specs.Table.{askedList, answeredList}
+use Rattle.replay_calls.specs.Table.{askedList, answeredList}
 
 -- three and four floats of a byte list, from float i on
 abbrev pub vecAt : List ℕ → ℕ → Vec3

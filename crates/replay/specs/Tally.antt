@@ -3,7 +3,7 @@ use mathlib.Core.Bool.{Bool}
 use mathlib.Core.List.{List}
 use Prim.Native.Nat.{ℕ}
 use Rattle.stored_answers.specs.Records.{endBy, recordBy, casesBy, differBy, damageBy}
-use Rattle.replay.specs.Table.{lastCall, listsOf}
+use Rattle.replay_calls.specs.Table.{lastCall, listsOf}
 use Rattle.replay.specs.Cases.{recordAgrees}
 
 -- where the record at a place ends, and where record i begins

@@ -1,113 +1,12 @@
 // A record's call is made, and its answer held against the stored one.
-use crate::arm_cases;
 use crate::leaf_cases;
-use crate::objective_cases;
-use crate::table;
+use replay_calls::arm_cases;
+use replay_calls::objective_cases;
+use replay_calls::outputs;
 use stored_answers::stored;
 ghost use mathlib.Core.Path.{_≡_};
-ghost use Prim.Native.Nat.{_≤_, _<_, _^_};
-ghost use lib.ListN.{length};
-ghost use Rattle.stored_answers.specs.Stored.{listOf};
-ghost use Rattle.stored_answers.specs.Agree.{fill};
-ghost use Rattle.replay.specs.Arms.{sizingAgrees};
-ghost use Rattle.replay.specs.Objectives.{oneBlockAgrees};
-ghost use Rattle.replay.specs.Cases.{oneAgrees, twoAgree, threeAgree, recordAgrees};
-
-// How long list k of the record is.
-fn room(s: &[u8], at: usize, k: usize) -> usize
-    requires { ⌜ (at ≤ 2 ^ 40) × (k ≤ 12) ⌝ }
-    ensures { λ r. ⌜ (r ≡ length (listOf (now (s .entry)) at k)) × (r < 65536) ⌝ }
-{
-    let stored = stored::list(s, at, k);
-    stored.len()
-}
-
-// Room for the longest list that a record can have.
-fn buffer() -> [u8; 65536]
-    ensures { λ r. ⌜ (r ≡ fill 65536) × (65536 ≡ length r) ⌝ }
-{
-    [165; 65536]
-}
-
-// Each output is as long as the stored one, and filled with one byte before the call.
-fn one_output(call: usize, s: &[u8], at: usize) -> bool
-    requires { ⌜ at ≤ 2 ^ 40 ⌝ }
-    requires { ⌜ (2 ≤ call) × (call < 6) ⌝ }
-    ensures { λ r. ⌜ r ≡ oneAgrees call (now (s .entry)) at ⌝ }
-{
-    let n = room(s, at, table::outputs_from(call));
-    let mut a = buffer();
-    match call {
-        2 => return arm_cases::pose(s, at, &mut a[..n]),
-        3 => return arm_cases::manipulability(s, at, &mut a[..n]),
-        4 => return arm_cases::update(s, at, &mut a[..n]),
-        _ => return objective_cases::objective(s, at, &mut a[..n]),
-    }
-}
-
-fn two_outputs(call: usize, s: &[u8], at: usize) -> bool
-    requires { ⌜ at ≤ 2 ^ 40 ⌝ }
-    ensures { λ r. ⌜ r ≡ twoAgree call (now (s .entry)) at ⌝ }
-{
-    let m = room(s, at, table::ARM_OUTPUTS);
-    let n = room(s, at, table::ARM_SECOND);
-    let mut a = buffer();
-    let mut b = buffer();
-    match call {
-        6 => return arm_cases::frames(s, at, &mut a[..m], &mut b[..n]),
-        _ => return arm_cases::reset(s, at, &mut a[..m], &mut b[..n]),
-    }
-}
-
-fn three_outputs(call: usize, s: &[u8], at: usize) -> bool
-    requires { ⌜ at ≤ 2 ^ 40 ⌝ }
-    ensures { λ r. ⌜ r ≡ threeAgree call (now (s .entry)) at ⌝ }
-{
-    let l = room(s, at, table::OBJECTIVE_OUTPUTS);
-    let m = room(s, at, table::OBJECTIVE_SECOND);
-    let n = room(s, at, table::OBJECTIVE_THIRD);
-    let mut a = buffer();
-    let mut b = buffer();
-    let mut c = buffer();
-    if call == 8 {
-        return objective_cases::gradient(s, at, &mut a[..l], &mut b[..m], &mut c[..n]);
-    }
-    objective_cases::gradient_finite_diff(s, at, &mut a[..l], &mut b[..m], &mut c[..n])
-}
-
-fn five_outputs(s: &[u8], at: usize) -> bool
-    requires { ⌜ at ≤ 2 ^ 40 ⌝ }
-    ensures { λ r. ⌜ r ≡ oneBlockAgrees (now (s .entry)) at ⌝ }
-{
-    let k = room(s, at, table::OBJECTIVE_OUTPUTS);
-    let l = room(s, at, table::OBJECTIVE_SECOND);
-    let m = room(s, at, table::OBJECTIVE_THIRD);
-    let n = room(s, at, table::OBJECTIVE_FOURTH);
-    let o = room(s, at, table::OBJECTIVE_FIFTH);
-    let mut a = buffer();
-    let mut b = buffer();
-    let mut c = buffer();
-    let mut d = buffer();
-    let mut e = buffer();
-    objective_cases::gradient_one_block(
-        s,
-        at,
-        &mut a[..k],
-        &mut b[..l],
-        &mut c[..m],
-        &mut d[..n],
-        &mut e[..o],
-    )
-}
-
-fn plan_output(s: &[u8], at: usize) -> bool
-    requires { ⌜ at ≤ 2 ^ 40 ⌝ }
-    ensures { λ r. ⌜ r ≡ sizingAgrees (now (s .entry)) at ⌝ }
-{
-    let n = room(s, at, table::PLAN_OUTPUT);
-    let mut a = buffer();
-    arm_cases::sizing(s, at, &mut a[..n])
-}
+ghost use Prim.Native.Nat.{_≤_, _^_};
+ghost use Rattle.replay.specs.Cases.{recordAgrees};
 
 pub fn agrees(s: &[u8], at: usize) -> bool
     requires { ⌜ at ≤ 2 ^ 40 ⌝ }
@@ -121,22 +20,25 @@ pub fn agrees(s: &[u8], at: usize) -> bool
         return arm_cases::set_goals(s, at);
     }
     if call < 6 {
-        return one_output(call, s, at);
+        return outputs::one_output(call, s, at);
     }
     if call < 8 {
-        return two_outputs(call, s, at);
+        return outputs::two_outputs(call, s, at);
     }
     if call < 10 {
-        return three_outputs(call, s, at);
+        return outputs::three_outputs(call, s, at);
     }
     if call == 10 {
-        return five_outputs(s, at);
+        return outputs::five_outputs(s, at);
     }
     if call == 41 {
-        return plan_output(s, at);
+        return outputs::plan_output(s, at);
     }
     if call == 42 {
         return objective_cases::set_weights(s, at);
+    }
+    if call == 43 {
+        return arm_cases::set_tool(s, at);
     }
     leaf_cases::leaf(s, at)
 }

@@ -1,11 +1,11 @@
 // Whether a list is whole: its records are all there, of known calls, and nothing is behind them.
-use crate::table;
 use crate::tally;
+use replay_calls::table;
 use stored_answers::stored;
 ghost use mathlib.Core.Path.{_≡_};
 ghost use Prim.Native.Nat.{_≤_, _^_};
 ghost use Rattle.stored_answers.specs.Records.{damageAt};
-ghost use Rattle.replay.specs.Table.{lastCall, listsOf};
+ghost use Rattle.replay_calls.specs.Table.{lastCall, listsOf};
 ghost use Rattle.replay.specs.Tally.{damageOf};
 
 fn record_damage(s: &[u8], at: usize) -> usize

@@ -1,10 +1,10 @@
 // The leaves: each is asked the floats that a record stores, and the floats it answers are held against the stored ones.
-use crate::agree;
 use crate::leaves;
-use crate::table;
 use geometry::quaternion::Quat;
 use geometry::vector::Vec3;
 use lent_bytes::lent;
+use replay_calls::table;
+use stored_answers::agree;
 use stored_answers::stored;
 ghost use mathlib.Core.Path.{_≡_};
 ghost use mathlib.Core.List.{[], _∷_};
@@ -13,7 +13,7 @@ ghost use lib.ListN.{length};
 ghost use Rattle.lent_bytes.specs.Lent.{bytesOf};
 ghost use Rattle.stored_answers.specs.Agree.{answerAgrees};
 ghost use Rattle.spacetime.specs.Floats.{flatVec, flatQuat};
-ghost use Rattle.replay.specs.Table.{answeredList};
+ghost use Rattle.replay_calls.specs.Table.{answeredList};
 ghost use Rattle.replay.specs.Leaves.{leafAgrees};
 
 fn floats(s: &[u8], at: usize, xs: &[f64]) -> bool

@@ -1,20 +1,16 @@
 // Replays the stored list of the reference's answers, read from standard input, on the proved code, and says for each call how many cases differ.
-mod agree;
-mod arm_cases;
 mod cases;
 mod damage;
 mod leaf_cases;
 mod leaves;
 mod names;
-mod objective_cases;
 mod report;
-mod table;
 mod tally;
 
 use libc::STDOUT_FILENO;
 
 // The room for the list, in bytes.
-const ROOM: usize = 409600;
+const ROOM: usize = 475136;
 
 fn replay(s: &[u8]) {
     let found = damage::damage(s);

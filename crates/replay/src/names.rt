@@ -57,6 +57,7 @@ fn print_shape(call: usize) -> bool {
         39 => return io::write_all(STDOUT_FILENO, b"scaled_axis"),
         40 => return io::write_all(STDOUT_FILENO, b"gram"),
         41 => return io::write_all(STDOUT_FILENO, b"sizing"),
-        _ => return io::write_all(STDOUT_FILENO, b"set_weights"),
+        42 => return io::write_all(STDOUT_FILENO, b"set_weights"),
+        _ => return io::write_all(STDOUT_FILENO, b"set_tool"),
     }
 }

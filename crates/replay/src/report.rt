@@ -1,12 +1,12 @@
 // A line for each call, with its counts, on standard output.
 use crate::names;
-use crate::table;
 use crate::tally;
 use crate::tally::Counts;
 use libc::STDOUT_FILENO;
+use replay_calls::table;
 ghost use mathlib.Core.Path.{_≡_};
 ghost use Rattle.stored_answers.specs.Records.{sumOf};
-ghost use Rattle.replay.specs.Table.{calls};
+ghost use Rattle.replay_calls.specs.Table.{calls};
 ghost use Rattle.replay.specs.Tally.{casesOf, differOf};
 
 fn print_counts(t: Counts) {

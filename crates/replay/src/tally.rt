@@ -1,6 +1,6 @@
 // How many of a call's records there are, and how many differ.
 use crate::cases;
-use crate::table;
+use replay_calls::table;
 use stored_answers::stored;
 ghost use mathlib.Core.Path.{_≡_};
 ghost use Prim.Native.Nat.{_+_, _≤_, _^_};
@@ -16,7 +16,7 @@ pub struct Counts {
 // Where the record at `at` ends.
 pub fn record_end(s: &[u8], at: usize) -> usize
     requires { ⌜ at ≤ 2 ^ 40 ⌝ }
-    ensures { λ r. ⌜ (r ≡ endOf (now (s .entry)) at) × (r ≤ at + 851985) ⌝ }
+    ensures { λ r. ⌜ (r ≡ endOf (now (s .entry)) at) × (r ≤ at + 1114133) ⌝ }
 {
     stored::place(s, at, table::lists(stored::number_at(s, at)))
 }

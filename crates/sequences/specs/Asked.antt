@@ -48,7 +48,7 @@ poseAt st s at = poseNumberOf st (jointsAt s at) (roomAt s at outputs)
 unfoldable pub poseAgrees : State → List ℕ → ℕ → Bool
 poseAgrees st s at =
     answerAgrees s at (poseAt st s at) outputs
-    (bytesOf (leftFloats (poseAt st s at) (listOf s at outputs) (endsOf (linksUsed (st .arms .sizes)) (posesOf st (jointsAt s at)))) ∷ [])
+    (bytesOf (leftFloats (poseAt st s at) (listOf s at outputs) (endsOf (linksUsed (st .arms .sizes)) (st .arms .tools) (posesOf st (jointsAt s at)))) ∷ [])
 
 -- a value
 abbrev manipulabilityAt : State → List ℕ → ℕ → ℕ

@@ -10,8 +10,9 @@ use Rattle.state_calls.specs.State.{emptyState}
 use Rattle.state_calls.specs.Load.{loadOf}
 use Rattle.state_calls.specs.Party.{setGoalsOf, resetStateOf, updateStateOf}
 use Rattle.state_calls.specs.Weights.{setWeightsOf}
-use Rattle.stored_answers.specs.Stored.{listOf}
-use Rattle.sequences.specs.Table.{sizesList, codesList, floatsList, limitsList, goalsList, weightsList}
+use Rattle.state_calls.specs.Tools.{setToolOf}
+use Rattle.stored_answers.specs.Stored.{numberAt, listOf}
+use Rattle.sequences.specs.Table.{sizesList, codesList, floatsList, limitsList, goalsList, weightsList, toolList, chainList}
 use Rattle.sequences.specs.Lists.{jointsAt}
 
 abbrev pub loadAt : State → List ℕ → ℕ → Outcome
@@ -31,11 +32,15 @@ updateAt st s at = updateStateOf st (jointsAt s at)
 abbrev pub setWeightsAt : State → List ℕ → ℕ → Outcome
 setWeightsAt st s at = setWeightsOf st (floatsIn 64 (listOf s at weightsList))
 
+-- so is a tool; its chain is a u16
+abbrev pub setToolAt : State → List ℕ → ℕ → Outcome
+setToolAt st s at = setToolOf st (numberAt (listOf s at chainList) 0) (floatsIn 64 (listOf s at toolList))
+
 abbrev pub outcomeIf : Bool → Outcome → Outcome → Outcome
 outcomeIf true a b = a
 outcomeIf false a b = b
 
--- by the record's call: 0 begins anew, 1 to 4 and 13 are the calls above, and every other leaves the state
+-- by the record's call: 0 begins anew, 1 to 4, 13 and 14 are the calls above, and every other leaves the state
 unfoldable pub outcomeAt : ℕ → State → List ℕ → ℕ → Outcome
 outcomeAt c st s at =
     outcomeIf (eqb c 0) (record { number = 0; state = emptyState })
@@ -44,4 +49,5 @@ outcomeAt c st s at =
     (outcomeIf (eqb c 3) (resetAt st s at)
     (outcomeIf (eqb c 4) (updateAt st s at)
     (outcomeIf (eqb c 13) (setWeightsAt st s at)
-    (record { number = 0; state = st }))))))
+    (outcomeIf (eqb c 14) (setToolAt st s at)
+    (record { number = 0; state = st })))))))

@@ -6,11 +6,13 @@ use state_calls::party;
 use state_calls::state;
 use state_calls::state::Outcome;
 use state_calls::state::State;
+use state_calls::tool;
 use state_calls::weights;
+use stored_answers::stored;
 use stored_answers::stored::list;
 ghost use mathlib.Core.Path.{_≡_};
 ghost use Prim.Native.Nat.{_≤_, _^_};
-ghost use Rattle.sequences.specs.Changes.{loadAt, setGoalsAt, resetAt, updateAt, setWeightsAt, outcomeAt};
+ghost use Rattle.sequences.specs.Changes.{loadAt, setGoalsAt, resetAt, updateAt, setWeightsAt, setToolAt, outcomeAt};
 
 fn load_stored(state: State, s: &[u8], at: usize) -> Outcome
     requires { ⌜ at ≤ 2 ^ 40 ⌝ }
@@ -63,6 +65,16 @@ fn set_weights(state: State, s: &[u8], at: usize) -> Outcome
     weights::set_weights(state, &weights[..n])
 }
 
+fn set_tool(state: State, s: &[u8], at: usize) -> Outcome
+    requires { ⌜ at ≤ 2 ^ 40 ⌝ }
+    ensures { λ r. ⌜ r ≡ setToolAt state (now (s .entry)) at ⌝ }
+{
+    let mut tool = [0.0; 64];
+    let n = lent::floats(list(s, at, table::TOOL), &mut tool);
+    let chain = stored::number_at(list(s, at, table::CHAIN), 0);
+    tool::set_tool(state, chain, &tool[..n])
+}
+
 // What step `call` answers, and the state after it.
 pub fn outcome(call: usize, state: State, s: &[u8], at: usize) -> Outcome
     requires { ⌜ at ≤ 2 ^ 40 ⌝ }
@@ -81,6 +93,7 @@ pub fn outcome(call: usize, state: State, s: &[u8], at: usize) -> Outcome
         3 => return reset(state, s, at),
         4 => return update(state, s, at),
         13 => return set_weights(state, s, at),
+        14 => return set_tool(state, s, at),
         _ => {
             return Outcome {
                 number: 0,

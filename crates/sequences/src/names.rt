@@ -16,6 +16,7 @@ pub fn print_name(call: usize) -> bool {
         10 => return io::write_all(STDOUT_FILENO, b"gradient_finite_diff"),
         11 => return io::write_all(STDOUT_FILENO, b"gradient_one_block"),
         12 => return io::write_all(STDOUT_FILENO, b"kept"),
-        _ => return io::write_all(STDOUT_FILENO, b"set_weights"),
+        13 => return io::write_all(STDOUT_FILENO, b"set_weights"),
+        _ => return io::write_all(STDOUT_FILENO, b"set_tool"),
     }
 }

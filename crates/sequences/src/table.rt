@@ -4,7 +4,7 @@ ghost use Prim.Native.Nat.{_≤_};
 ghost use Rattle.sequences.specs.Table.{listsOf};
 
 // the calls are 0 to the last one
-pub const LAST: usize = 13;
+pub const LAST: usize = 14;
 // how many they are
 pub const CALLS: usize = LAST + 1;
 // load
@@ -19,6 +19,10 @@ pub const LIMITS: usize = FLOATS + 1;
 pub const GOALS: usize = 0;
 // set_weights
 pub const WEIGHTS: usize = 0;
+// set_tool
+pub const TOOL: usize = 0;
+
+pub const CHAIN: usize = TOOL + 1;
 // every other call but `kept`
 pub const JOINTS: usize = 0;
 
@@ -64,6 +68,7 @@ pub fn lists(call: usize) -> usize
         10 => return 4,
         11 => return 7,
         12 => return 6,
-        _ => return 1,
+        13 => return 1,
+        _ => return 2,
     }
 }

@@ -12,6 +12,7 @@ use Rattle.geometry.specs.Pose.{originOf}
 use Rattle.sheet.specs.Chain.{total, chainStart, chain-start-next, chain-start-mono, chain-start-total}
 use Rattle.spacetime.specs.Floats.{vecAt, quatAt, poseAt, flatVec, flatQuat, flat, vec-length, quat-length, flat-length}
 use Rattle.spacetime.specs.Walk.{listPose}
+use Rattle.spacetime.specs.Tool.{tipOf}
 
 -- the positions of links by number, and their rotations
 unfoldable pub positionAt : (ℕ → Pose) → ℕ → List Float
@@ -35,12 +36,16 @@ chainPositions ns P c = positionsFrom P (chainStart ns c) (getD ns c 0)
 unfoldable pub chainRotations : List ℕ → (ℕ → Pose) → ℕ → List Float
 chainRotations ns P c = rotationsFrom P (chainStart ns c) (getD ns c 0)
 
--- the pose at its end: that after its last link
-abbrev pub endOf : List ℕ → (ℕ → Pose) → ℕ → Pose
-endOf ns P c = P (chainStart ns c + getD ns c 0 - 1)
+-- its last frame: the pose after its last link
+abbrev pub lastOf : List ℕ → (ℕ → Pose) → ℕ → Pose
+lastOf ns P c = P (chainStart ns c + getD ns c 0 - 1)
 
-unfoldable pub chainEnd : List ℕ → (ℕ → Pose) → ℕ → List Float
-chainEnd ns P c = flat (endOf ns P c)
+-- the pose at its end: the last frame, followed by the chain's tool if it has one
+abbrev pub endOf : List ℕ → List Float → (ℕ → Pose) → ℕ → Pose
+endOf ns tools P c = tipOf tools c (lastOf ns P c)
+
+unfoldable pub chainEnd : List ℕ → List Float → (ℕ → Pose) → ℕ → List Float
+chainEnd ns tools P c = flat (endOf ns tools P c)
 
 -- what an accepted sheet's chains have: at most four, none without a link
 pub record Chains (ns : List ℕ) : Type 0 where
@@ -54,8 +59,8 @@ positionsOf ns P = runs (chainPositions ns P) 0 (length ns)
 unfoldable pub rotationsOf : List ℕ → (ℕ → Pose) → List Float
 rotationsOf ns P = runs (chainRotations ns P) 0 (length ns)
 
-unfoldable pub endsOf : List ℕ → (ℕ → Pose) → List Float
-endsOf ns P = runs (chainEnd ns P) 0 (length ns)
+unfoldable pub endsOf : List ℕ → List Float → (ℕ → Pose) → List Float
+endsOf ns tools P = runs (chainEnd ns tools P) 0 (length ns)
 
 -- ---- laws: of a list of poses
 pub position-list : (r : List Float) (l : ℕ) → flatVec (vecAt r (7 * l)) ≡ positionAt (listPose r) l
@@ -75,9 +80,9 @@ pub rotation-length : (P : ℕ → Pose) (l : ℕ) → length (rotationAt P l) �
 unfolding rotationAt
 rotation-length P l = quat-length (P l .rotation)
 
-pub end-length : (ns : List ℕ) (P : ℕ → Pose) (c : ℕ) → length (chainEnd ns P c) ≡ 7
+pub end-length : (ns : List ℕ) (tools : List Float) (P : ℕ → Pose) (c : ℕ) → length (chainEnd ns tools P c) ≡ 7
 unfolding chainEnd
-end-length ns P c = flat-length (P (chainStart ns c + getD ns c 0 - 1))
+end-length ns tools P c = flat-length (endOf ns tools P c)
 
 pub chain-positions-length : (ns : List ℕ) (P : ℕ → Pose) (c : ℕ) → length (chainPositions ns P c) ≡ 3 * (getD ns c 0 + 1)
 unfolding chainPositions positionsFrom
@@ -133,7 +138,7 @@ module _ (ns : List ℕ) (P Q : ℕ → Pose) (same : (l : ℕ) → l < total ns
       (λ c l. ap (λ (r : List Float). flatVec (originOf .position) ++ r) (links-ext positionAt position-ext (0 + c) (omega arith)))
 
   -- the last link of a chain that has one
-  last-ext : Chains ns → (c : ℕ) → c < length ns → P (chainStart ns c + getD ns c 0 - 1) ≡ Q (chainStart ns c + getD ns c 0 - 1)
+  last-ext : Chains ns → (c : ℕ) → c < length ns → lastOf ns P c ≡ lastOf ns Q c
   last-ext chains c h = same (chainStart ns c + getD ns c 0 - 1) (omega (arith, chain-within ns c h, chains .some c h))
 
   pub rotations-ext : Chains ns → rotationsOf ns P ≡ rotationsOf ns Q
@@ -145,6 +150,7 @@ module _ (ns : List ℕ) (P Q : ℕ → Pose) (same : (l : ℕ) → l < total ns
       let e = rotation-ext (chainStart ns (0 + c) + getD ns (0 + c) 0 - 1) (last-ext chains (0 + c) (omega arith)) in
       rw (r, e))
 
-  pub ends-ext : Chains ns → endsOf ns P ≡ endsOf ns Q
+  pub ends-ext : (tools : List Float) → Chains ns → endsOf ns tools P ≡ endsOf ns tools Q
   unfolding endsOf chainEnd
-  ends-ext chains = runs-ext (chainEnd ns P) (chainEnd ns Q) 0 (length ns) (λ c l. ap flat (last-ext chains (0 + c) (omega arith)))
+  ends-ext tools chains =
+      runs-ext (chainEnd ns tools P) (chainEnd ns tools Q) 0 (length ns) (λ c l. ap (λ (p : Pose). flat (tipOf tools (0 + c) p)) (last-ext chains (0 + c) (omega arith)))

@@ -163,7 +163,7 @@ fn moved(kind: Kind, p: Pose, d: Vec3, rotation: Quat, v: f64) -> Vec3
 }
 
 // The pose after a link of displacement d and offset o, its joint at v and turned by t.
-fn link(kind: Kind, d: Vec3, o: Quat, v: f64, t: Quat, p: Pose) -> Pose
+pub(crate) fn link(kind: Kind, d: Vec3, o: Quat, v: f64, t: Quat, p: Pose) -> Pose
     requires { ⌜ t ≡ jointTurn kind v ⌝ }
     ensures { λ r. ⌜ r ≡ linkOf kind d o v p ⌝ }
 {

@@ -1,5 +1,6 @@
 // The frame lists that a caller gets, made of a walk's poses, seven floats a link.
 use crate::floats;
+use crate::tool;
 use geometry::quaternion;
 use geometry::vector;
 ghost use mathlib.Core.Path.{_≡_};
@@ -85,17 +86,18 @@ pub fn put_rotations(counts: &[u16], poses: &[f64], out: &mut [f64])
     }
 }
 
-// End poses by 7, one a chain.
-pub fn put_ends(counts: &[u16], poses: &[f64], out: &mut [f64])
-    requires { ⌜ Chains (now counts) ⌝ }
+// End poses by 7, one a chain: its last frame, followed by its tool if it has one.
+pub fn put_ends(counts: &[u16], tools: &[f64], poses: &[f64], out: &mut [f64])
+    requires { ⌜ Chains (now counts) × (8 * length (now counts) ≤ length (now tools)) ⌝ }
     requires { ⌜ (7 * total (now counts) ≤ length (now poses)) × (7 * length (now counts) ≤ length (now out)) ⌝ }
-    ensures { λ _. ⌜ now (out .exit) ≡ splice (now (out .entry)) 0 (endsOf (now (counts .entry)) (listPose (now (poses .entry)))) ⌝ }
+    ensures { λ _. ⌜ now (out .exit) ≡ splice (now (out .entry)) 0 (endsOf (now (counts .entry)) (now (tools .entry)) (listPose (now (poses .entry)))) ⌝ }
 {
     let mut from: usize = 0;
     let mut c: usize = 0;
     while c < counts.len() {
         from += counts[c] as usize;
-        floats::put(out, 7 * c, floats::get(poses, 7 * (from - 1)));
+        let last = floats::get(poses, 7 * (from - 1));
+        floats::put(out, 7 * c, tool::tip(tools, c, last));
         c += 1;
     }
 }

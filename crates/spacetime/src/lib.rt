@@ -1,4 +1,5 @@
-// The arm: its links walked, and the lists of frames.
+// The arm: its links walked, the tools at its chains' ends, and the lists of frames.
 pub mod arm;
 pub mod floats;
 pub mod frames;
+pub mod tool;

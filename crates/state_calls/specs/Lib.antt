@@ -10,3 +10,4 @@ pub mod OneBlock
 pub mod Numbers
 pub mod Planned
 pub mod Weights
+pub mod Tools

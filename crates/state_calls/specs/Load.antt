@@ -1,4 +1,4 @@
--- Loading: the sheet is stored, each list with zeros behind it; goals and history are cleared, weights are kept. A refusal keeps the old state.
+-- Loading: the sheet is stored, each list with zeros behind it; goals, history and tools are cleared, weights are kept. A refusal keeps the old state.
 use mathlib.Core.Path.{_≡_, refl}
 use mathlib.Core.Bool.{Bool, true, false}
 use mathlib.Core.List.{List}
@@ -19,6 +19,7 @@ armsOf sizes codes floats limits = record {
   codes = splice (replicate 64 0) 0 codes;
   floats = splice (zeros 448) 0 floats;
   limits = splice (zeros 32) 0 limits;
+  tools = zeros 32;
 }
 
 -- the new state, or, where number is not 0, the old one

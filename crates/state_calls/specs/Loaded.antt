@@ -13,6 +13,7 @@ use Rattle.refusals.specs.Lowest.{lowest, lowestFrom, first-none}
 use Rattle.refusals.specs.Refusal.{chainsOf, linksOf, badSizes, shapeRefusal, loadRefusal}
 use Rattle.refusals.specs.Range.{between}
 use Rattle.refusals.specs.Passed.{Shape, load-first, load-passed}
+use Rattle.calls.specs.Tools.{NoTool, zeros-none}
 use Rattle.state_calls.specs.declared.state.State.{State}
 use Rattle.state_calls.specs.State.{zeros, sizesUsed, linksUsed, codesUsed, floatsUsed, limitsUsed, haveSheet, emptyArms, emptyParty, emptyState}
 use Rattle.state_calls.specs.Load.{armsOf, loadOf, outcomeOf}
@@ -66,7 +67,7 @@ module _ (sizes codes : List ℕ) (floats limits : List Float) (e : loadRefusal 
       let w : 7 * total (linksUsed ss) ≡ length floats = ap (λ (k : ℕ). 7 * k) total-kept ∙ sym (shape .wide) in
       rw (le-ltb 4 (getD ss 0 0) (omega (arith, chains-kept, shape .sized .few)), le-ltb 64 (total (linksUsed ss)) (omega (arith, total-kept, shape .most)), sizes-kept, codes-kept, w, z)
 
--- an accepted load: the sheet and its limits are in the state, and no goals, no start and no history (weights are as they were: Weights.antt)
+-- an accepted load: the sheet and its limits are in the state, and no goals, no start, no history and no tool (weights are as they were: Weights.antt)
 pub record Loaded (sizes codes : List ℕ) (floats limits : List Float) (s : State) : Type 0 where
   pub have : haveSheet (s .arms .sizes) (s .arms .codes) ≡ true
   pub chains : getD (s .arms .sizes) 0 0 ≡ chainsOf sizes
@@ -77,6 +78,7 @@ pub record Loaded (sizes codes : List ℕ) (floats limits : List Float) (s : Sta
   pub no-goals : s .party .«has_goals» ≡ false
   pub no-start : s .party .started ≡ false
   pub empty : s .party ≡ emptyParty
+  pub no-tool : NoTool (s .arms .tools)
 
 pub loaded : (s : State) (sizes codes : List ℕ) (floats limits : List Float) → loadRefusal sizes codes floats limits ≡ 0
     → Loaded sizes codes floats limits (loadOf s sizes codes floats limits .state)
@@ -92,4 +94,5 @@ loaded s sizes codes floats limits e =
       no-goals = refl;
       no-start = refl;
       empty = refl;
+      no-tool = zeros-none 32;
     })

@@ -8,12 +8,12 @@ use native.Mathlib.Omega.{arith}
 use lib.Ieee.{Float}
 use lib.ListN.{getD}
 use Rattle.refusals.specs.Lowest.{firstOf, first-zero, first-some}
-use Rattle.refusals.specs.Rows.{Row, row, firstRow, upFrom, Numbered, numbered, blockRow, goalsRow, goals-row, alone}
+use Rattle.refusals.specs.Rows.{Row, row, firstRow, upFrom, Numbered, numbered, blockRow, goalsRow, goals-row, toolRow, tool-row, alone}
 use Rattle.calls.specs.Rows.{framesRows, poseRows, block-alone, frames-rows, pose-rows}
 use Rattle.calls.specs.Rows.{slopesRows, slopes-rows}
 use Rattle.calls.specs.Rows.{oneBlockRows, one-block-rows}
 use Rattle.state_calls.specs.State.{linksUsed, codesUsed, haveSheet}
-use Rattle.state_calls.specs.StoredSheet.{ifArms, framesStored, poseStored, blockStored, goalsStored, updateStored}
+use Rattle.state_calls.specs.StoredSheet.{ifArms, framesStored, poseStored, blockStored, goalsStored, toolStored, updateStored}
 use Rattle.state_calls.specs.StoredTask.{stateNumber, afterState, objectiveStored, slopesStored}
 use Rattle.state_calls.specs.OneBlock.{oneBlockStored}
 
@@ -75,6 +75,13 @@ module _ (ss cs : List ℕ) where
   goals-numbered goals =
       numbered _ _ _ refl refl
       (arms-first ss cs _ ∙ ap (firstOf (firstRow (armsRow ss cs ∷ []))) (alone _ _ (goals-row (getD ss 0 0) goals [])))
+
+  -- setting a tool
+  pub tool-numbered : (c : ℕ) (tool : List Float) → Numbered (armsRow ss cs ∷ []) (toolRow (getD ss 0 0) c tool ∷ []) (toolStored ss cs c tool)
+  unfolding toolStored upFrom
+  tool-numbered c tool =
+      numbered _ _ _ refl refl
+      (arms-first ss cs _ ∙ ap (firstOf (firstRow (armsRow ss cs ∷ []))) (alone _ _ (tool-row (getD ss 0 0) c tool [])))
 
   pub update-numbered : (started : Bool) (x : List Float)
       → Numbered (armsRow ss cs ∷ startRow started ∷ []) (blockRow (codesUsed ss cs) x ∷ []) (updateStored ss cs started x)

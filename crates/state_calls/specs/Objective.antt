@@ -16,7 +16,7 @@ use Rattle.gradient.specs.Gradient.{valueAt, slopesOf, gradientOf, finiteDiffOf
 use Rattle.calls.specs.Arms.{Accepted, ifTaken}
 use Rattle.calls.specs.Answer.{valueIf}
 use Rattle.state_calls.specs.declared.state.State.{State}
-use Rattle.state_calls.specs.State.{linksUsed, codesUsed, floatsUsed, limitsUsed, goalsUsed, blockUsed, haveSheet}
+use Rattle.state_calls.specs.State.{linksUsed, codesUsed, floatsUsed, limitsUsed, toolsUsed, goalsUsed, blockUsed, haveSheet}
 use Rattle.state_calls.specs.StoredSheet.{stored-accepted}
 use Rattle.state_calls.specs.StoredTask.{objectiveStored, slopesStored, afterState, givenStored, weightsInForce, apartOf, state-have, value-under, taken-under}
 
@@ -35,6 +35,7 @@ givenState s =
       xopt = blockUsed ss cs (h .xopt);
       «prev_state» = blockUsed ss cs (h .«prev_state»);
       «prev_state2» = blockUsed ss cs (h .«prev_state2»);
+      tools = toolsUsed ss (s .arms .tools);
     }
 
 abbrev pub linkFloats : State → List Float
@@ -63,6 +64,7 @@ pub record Lists (s : State) : Type 0 where
   pub codes : length (s .arms .codes) ≡ 64
   pub floats : length (s .arms .floats) ≡ 448
   pub limits : length (s .arms .limits) ≡ 32
+  pub tools : length (s .arms .tools) ≡ 32
   pub weights : length (s .weights .list) ≡ 8
   pub goals : length (s .party .goals) ≡ 52
   pub xopt : length (s .party .history .xopt) ≡ 16
@@ -73,13 +75,13 @@ pub record Lists (s : State) : Type 0 where
 weights-whole : (s : State) → Lists s → length (weightsInForce (s .weights)) ≡ 8
 weights-whole s l = in-force-eight (s .weights .loaded) (s .weights .list) (l .weights)
 
-given-apart : (s : State) → Lists s → givenApart (linksUsed (s .arms .sizes)) (codesUsed (s .arms .sizes) (s .arms .codes)) (apartOf (s .weights) (s .arms .limits) (s .party)) ≡ givenState s
-unfolding givenApart givenState limitsUsed goalsUsed blockUsed
+given-apart : (s : State) → Lists s → givenApart (linksUsed (s .arms .sizes)) (codesUsed (s .arms .sizes) (s .arms .codes)) (apartOf (s .weights) (s .arms .limits) (s .arms .tools) (s .party)) ≡ givenState s
+unfolding givenApart givenState limitsUsed toolsUsed goalsUsed blockUsed
 given-apart s l =
     let e : take 8 (weightsInForce (s .weights)) ≡ weightsInForce (s .weights) = take-all 8 _ (omega (arith, weights-whole s l)) in
     rw e
 
-module _ (s : State) (t task : List Float) (l : Lists s) (whole : length t ≡ taskLength) (e : task ≡ laid (apartOf (s .weights) (s .arms .limits) (s .party)) t) where
+module _ (s : State) (t task : List Float) (l : Lists s) (whole : length t ≡ taskLength) (e : task ≡ laid (apartOf (s .weights) (s .arms .limits) (s .arms .tools) (s .party)) t) where
   abbrev ss : List ℕ
   ss = s .arms .sizes
 
@@ -89,11 +91,11 @@ module _ (s : State) (t task : List Float) (l : Lists s) (whole : length t ≡ t
   given-laid : haveSheet ss cs ≡ true → givenStored ss cs task ≡ givenState s
   unfolding givenStored
   given-laid have =
-      let a : Apart = apartOf (s .weights) (s .arms .limits) (s .party) in
+      let a : Apart = apartOf (s .weights) (s .arms .limits) (s .arms .tools) (s .party) in
       let w : length (weightsInForce (s .weights)) ≡ 8 = weights-whole s l in
       let p : Accepted (linksUsed ss) (codesUsed ss cs) (floatsUsed ss (s .arms .floats)) = stored-accepted ss cs (s .arms .floats) (l .codes) (l .floats) have in
-      let fit : Fit a = record { weights = omega (arith, w); limits = omega (arith, l .limits); goals = omega (arith, l .goals); xopt = omega (arith, l .xopt); «prev_state» = omega (arith, l .«prev_state»); «prev_state2» = omega (arith, l .«prev_state2») } in
-      let full : Full (linksUsed ss) (codesUsed ss cs) a = record { weights = omega (arith, w); limits = omega (arith, l .limits, p .few); goals = omega (arith, l .goals, p .chains .few); xopt = omega (arith, l .xopt, p .few); «prev_state» = omega (arith, l .«prev_state», p .few); «prev_state2» = omega (arith, l .«prev_state2», p .few) } in
+      let fit : Fit a = record { weights = omega (arith, w); limits = omega (arith, l .limits); goals = omega (arith, l .goals); xopt = omega (arith, l .xopt); «prev_state» = omega (arith, l .«prev_state»); «prev_state2» = omega (arith, l .«prev_state2»); tools = omega (arith, l .tools) } in
+      let full : Full (linksUsed ss) (codesUsed ss cs) a = record { weights = omega (arith, w); limits = omega (arith, l .limits, p .few); goals = omega (arith, l .goals, p .chains .few); xopt = omega (arith, l .xopt, p .few); «prev_state» = omega (arith, l .«prev_state», p .few); «prev_state2» = omega (arith, l .«prev_state2», p .few); tools = omega (arith, l .tools, p .chains .few) } in
       ap (givenStored ss cs) e ∙ laid-given a t whole fit (linksUsed ss) (codesUsed ss cs) full (p .chains .few) (p .few) ∙ given-apart s l
 
   -- so does a call with number n, whose own number is m

@@ -50,7 +50,7 @@ withStart p x ends = record {
 unfoldable pub resetStateOf : State → List Float → Outcome
 resetStateOf s x =
     outcomeOf (blockStored (s .arms .sizes) (s .arms .codes) x) s
-    (withParty s (withStart (s .party) x (endsOf (linksUsed (s .arms .sizes)) (posesOf s x))))
+    (withParty s (withStart (s .party) x (endsOf (linksUsed (s .arms .sizes)) (s .arms .tools) (posesOf s x))))
 
 -- one block more: the others move one back
 unfoldable pub withBlock : Party → List Float → Party

@@ -30,7 +30,7 @@ emptyParty = record {
 }
 
 unfoldable pub emptyArms : Arms
-emptyArms = record { sizes = replicate 5 0; codes = replicate 64 0; floats = zeros 448; limits = zeros 32 }
+emptyArms = record { sizes = replicate 5 0; codes = replicate 64 0; floats = zeros 448; limits = zeros 32; tools = zeros 32 }
 
 -- no list of weights
 unfoldable pub noWeights : Weights
@@ -56,6 +56,10 @@ floatsUsed ss gs = take (7 * total (linksUsed ss)) gs
 -- two limits a joint
 unfoldable pub limitsUsed : List ℕ → List ℕ → List Float → List Float
 limitsUsed ss cs ls = take (2 * joints (codesUsed ss cs)) ls
+
+-- eight floats a chain
+unfoldable pub toolsUsed : List ℕ → List Float → List Float
+toolsUsed ss tools = take (8 * length (linksUsed ss)) tools
 
 -- thirteen floats a chain
 unfoldable pub goalsUsed : List ℕ → List Float → List Float

@@ -14,7 +14,7 @@ use Rattle.geometry.specs.declared.pose.Pose.{Pose}
 use Rattle.sheet.specs.Chain.{total}
 use Rattle.spacetime.specs.Walk.{poseOf}
 use Rattle.manipulability.specs.Jacobian.{manipulabilityOf}
-use Rattle.refusals.specs.Refusal.{shapeRefusal, blockRefusal, goalsRefusal}
+use Rattle.refusals.specs.Refusal.{shapeRefusal, blockRefusal, goalsRefusal, toolRefusal}
 use Rattle.calls.specs.Arms.{Accepted, arms-passed}
 use Rattle.calls.specs.Frames.{framesRefusal, poseRefusal, pose-room}
 use Rattle.state_calls.specs.State.{sizesUsed, linksUsed, codesUsed, floatsUsed, haveSheet, countsOf, counts-loaded, counts-are, Stored, stored}
@@ -37,6 +37,10 @@ blockStored ss cs x = ifArms ss cs (blockRefusal (codesUsed ss cs) x)
 -- 20, then 8
 unfoldable pub goalsStored : List ℕ → List ℕ → List Float → ℕ
 goalsStored ss cs goals = ifArms ss cs (goalsRefusal (getD ss 0 0) goals)
+
+-- 20, then 11
+unfoldable pub toolStored : List ℕ → List ℕ → ℕ → List Float → ℕ
+toolStored ss cs c tool = ifArms ss cs (toolRefusal (getD ss 0 0) c tool)
 
 -- 20, then 22, then 7
 unfoldable pub updateStored : List ℕ → List ℕ → Bool → List Float → ℕ

@@ -1,4 +1,4 @@
--- The objective and its gradients on stored goals and history: their numbers, and what they look at.
+-- The objective and its gradients on stored goals, history, weights and tools: their numbers, and what they look at.
 use mathlib.Core.Path.{_≡_, refl, sym, ap, _∙_, subst}
 use mathlib.Core.Bool.{Bool, true, false, cond, not}
 use mathlib.Core.List.{List}
@@ -64,9 +64,9 @@ pub record Arrays (ss cs : List ℕ) (gs task : List Float) : Type 0 where
 abbrev pub weightsInForce : Weights → List Float
 weightsInForce w = inForce (w .loaded) (w .list)
 
--- the lists that are laid: the weights in force, the limits, and what the party has set
-abbrev pub apartOf : Weights → List Float → Party → Apart
-apartOf w limits p = apart (weightsInForce w) limits (p .goals) (p .history .xopt) (p .history .«prev_state») (p .history .«prev_state2»)
+-- the lists that are laid: the weights in force, the limits, what the party has set, and the tools
+abbrev pub apartOf : Weights → List Float → List Float → Party → Apart
+apartOf w limits tools p = apart (weightsInForce w) limits (p .goals) (p .history .xopt) (p .history .«prev_state») (p .history .«prev_state2») tools
 
 -- ---- laws
 state-arms : (arms goals started : Bool) → stateNumber arms goals started ≡ 0 → arms ≡ true

@@ -26,17 +26,18 @@ pub fn frames(state: State, joints: &[f64], positions: &mut [f64], rotations: &m
     stored_sheet::frames_on(&sizes, &codes, &floats, joints, positions, rotations)
 }
 
-// The end pose of each chain: position and rotation, seven floats.
+// The end pose of each chain, its tool included: position and rotation, seven floats.
 pub fn pose(state: State, joints: &[f64], ends: &mut [f64]) -> u16
     ensures number { λ r. ⌜ r ≡ poseNumberOf state (now (joints .entry)) (length (now (ends .entry))) ⌝ }
     ensures ends { λ r. ⌜ now (ends .exit) ≡ ifTaken r (now (ends .entry)) (splice (now (ends .entry)) 0
-        (endsOf (linksUsed (state .arms .sizes)) (posesOf state (now (joints .entry))))) ⌝ }
+        (endsOf (linksUsed (state .arms .sizes)) (state .arms .tools) (posesOf state (now (joints .entry))))) ⌝ }
 {
     let arms = state.arms;
     let sizes = arms.sizes;
     let codes = arms.codes;
     let floats = arms.floats;
-    stored_sheet::pose_on(&sizes, &codes, &floats, joints, ends)
+    let tools = arms.tools;
+    stored_sheet::pose_on(&sizes, &codes, &floats, &tools, joints, ends)
 }
 
 // The arm's manipulability, summed over its chains.

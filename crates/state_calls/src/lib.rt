@@ -7,4 +7,5 @@ pub mod party;
 pub mod state;
 mod stored_sheet;
 mod stored_task;
+pub mod tool;
 pub mod weights;

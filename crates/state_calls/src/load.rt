@@ -26,10 +26,11 @@ fn stored(sizes: &[u16], codes: &[u16], floats: &[f64], limits: &[f64]) -> Arms
         codes: b,
         floats: c,
         limits: d,
+        tools: [0.0; 32],
     }
 }
 
-// Takes a sheet; goals and history are cleared, weights are kept.
+// Takes a sheet; goals, history and tools are cleared, weights are kept.
 pub fn load(state: State, sizes: &[u16], codes: &[u16], floats: &[f64], limits: &[f64]) -> Outcome
     ensures { λ r. ⌜ r ≡ loadOf state (now (sizes .entry)) (now (codes .entry)) (now (floats .entry)) (now (limits .entry)) ⌝ }
 {

@@ -24,10 +24,11 @@ pub fn objective(state: State, joints: &[f64]) -> Answer
     let codes = arms.codes;
     let floats = arms.floats;
     let limits = arms.limits;
+    let tools = arms.tools;
     let weights = state.weights;
     let party = state.party;
     let mut task = [0.0; task::LENGTH];
-    stored_task::lay_task(weights, &limits, party, &mut task);
+    stored_task::lay_task(weights, &limits, &tools, party, &mut task);
     stored_task::objective_on(
         &sizes,
         &codes,
@@ -58,10 +59,11 @@ fn gradient_by(
     let codes = arms.codes;
     let floats = arms.floats;
     let limits = arms.limits;
+    let tools = arms.tools;
     let weights = state.weights;
     let party = state.party;
     let mut task = [0.0; task::LENGTH];
-    stored_task::lay_task(weights, &limits, party, &mut task);
+    stored_task::lay_task(weights, &limits, &tools, party, &mut task);
     stored_task::gradient_on(
         rule,
         &sizes,

@@ -77,10 +77,11 @@ pub fn gradient_one_block(
     let codes = arms.codes;
     let floats = arms.floats;
     let limits = arms.limits;
+    let tools = arms.tools;
     let weights = state.weights;
     let party = state.party;
     let mut task = [0.0; task::LENGTH];
-    stored_task::lay_task(weights, &limits, party, &mut task);
+    stored_task::lay_task(weights, &limits, &tools, party, &mut task);
     gradient_one_block_on(
         &sizes,
         &codes,

@@ -54,8 +54,9 @@ pub fn reset(state: State, joints: &[f64]) -> Outcome
     let sizes = arms.sizes;
     let codes = arms.codes;
     let floats = arms.floats;
+    let tools = arms.tools;
     let mut ends = [0.0; 28];
-    let number = stored_sheet::pose_on(&sizes, &codes, &floats, joints, &mut ends);
+    let number = stored_sheet::pose_on(&sizes, &codes, &floats, &tools, joints, &mut ends);
     if number != 0 {
         return Outcome {
             number: number,

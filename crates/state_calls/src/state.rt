@@ -6,12 +6,13 @@ ghost use mathlib.Core.Path.{_≡_};
 ghost use lib.ListN.{length};
 ghost use Rattle.state_calls.specs.State.{emptyParty, emptyState, countsOf};
 
-// The sheet, each list with zeros behind it; no chains: no arms.
+// The sheet, each list with zeros behind it; no chains: no arms. A chain's tool is eight floats, 1 where it has one, then displacement and offset; loading leaves none.
 pub struct Arms {
     pub sizes: [u16; 5],
     pub codes: [u16; 64],
     pub floats: [f64; 448],
     pub limits: [f64; 32],
+    pub tools: [f64; 32],
 }
 
 // A weight for each kind of objective, and whether they are loaded; until then the built-in ones serve.
@@ -77,6 +78,7 @@ pub fn empty() -> State
         codes: [0; 64],
         floats: [0.0; 448],
         limits: [0.0; 32],
+        tools: [0.0; 32],
     };
     let weights = Weights {
         loaded: false,

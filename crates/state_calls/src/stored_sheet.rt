@@ -4,6 +4,7 @@ use calls::answer::Answer;
 use calls::frames;
 use calls::measure;
 use refusals::lent;
+use refusals::tools;
 ghost use mathlib.Core.Path.{_≡_};
 ghost use lib.ListN.{length};
 ghost use Rattle.lists.specs.Splice.{splice};
@@ -11,7 +12,7 @@ ghost use Rattle.spacetime.specs.Frames.{positionsOf, rotationsOf, endsOf};
 ghost use Rattle.calls.specs.Arms.{ifTaken};
 ghost use Rattle.calls.specs.Answer.{numberOf, answerValue, valueIf, answerOf};
 ghost use Rattle.state_calls.specs.State.{linksUsed};
-ghost use Rattle.state_calls.specs.StoredSheet.{framesStored, poseStored, blockStored, goalsStored, updateStored, manipulabilityStored, storedPose};
+ghost use Rattle.state_calls.specs.StoredSheet.{framesStored, poseStored, blockStored, goalsStored, toolStored, updateStored, manipulabilityStored, storedPose};
 
 pub(crate) fn frames_on(
     sizes: &[u16],
@@ -49,13 +50,14 @@ pub(crate) fn pose_on(
     sizes: &[u16],
     codes: &[u16],
     floats: &[f64],
+    tools: &[f64],
     joints: &[f64],
     ends: &mut [f64],
 ) -> u16
-    requires { ⌜ (length (now sizes) ≡ 5) × (length (now codes) ≡ 64) × (length (now floats) ≡ 448) ⌝ }
+    requires { ⌜ (length (now sizes) ≡ 5) × (length (now codes) ≡ 64) × (length (now floats) ≡ 448) × (length (now tools) ≡ 32) ⌝ }
     ensures number { λ r. ⌜ r ≡ poseStored (now (sizes .entry)) (now (codes .entry)) (now (joints .entry)) (length (now (ends .entry))) ⌝ }
     ensures ends { λ r. ⌜ now (ends .exit) ≡ ifTaken r (now (ends .entry)) (splice (now (ends .entry)) 0
-        (endsOf (linksUsed (now (sizes .entry))) (storedPose (now (sizes .entry)) (now (codes .entry)) (now (floats .entry)) (now (joints .entry))))) ⌝ }
+        (endsOf (linksUsed (now (sizes .entry))) (now (tools .entry)) (storedPose (now (sizes .entry)) (now (codes .entry)) (now (floats .entry)) (now (joints .entry))))) ⌝ }
 {
     let n = state::in_use(sizes, codes);
     if !n.loaded {
@@ -68,6 +70,7 @@ pub(crate) fn pose_on(
         &sizes[1..end],
         &codes[..links],
         &floats[..wide],
+        tools,
         joints,
         ends,
     )
@@ -94,6 +97,17 @@ pub(crate) fn goals_on(sizes: &[u16], codes: &[u16], goals: &[f64]) -> u16
         return 20;
     }
     lent::goals_refusal(n.chains, goals)
+}
+
+pub(crate) fn tool_on(sizes: &[u16], codes: &[u16], chain: usize, tool: &[f64]) -> u16
+    requires { ⌜ (length (now sizes) ≡ 5) × (length (now codes) ≡ 64) ⌝ }
+    ensures { λ r. ⌜ r ≡ toolStored (now (sizes .entry)) (now (codes .entry)) chain (now (tool .entry)) ⌝ }
+{
+    let n = state::in_use(sizes, codes);
+    if !n.loaded {
+        return 20;
+    }
+    tools::tool_refusal(n.chains, chain, tool)
 }
 
 pub(crate) fn update_on(sizes: &[u16], codes: &[u16], started: bool, joints: &[f64]) -> u16

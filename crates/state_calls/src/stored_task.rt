@@ -19,10 +19,16 @@ ghost use Rattle.calls.specs.AcceptedTask.{FrontIfTaken};
 ghost use Rattle.state_calls.specs.State.{floatsUsed};
 ghost use Rattle.state_calls.specs.StoredTask.{Arrays, stateNumber, objectiveStored, slopesStored, givenStored, valueStored, apartOf};
 
-// The weights in force, the limits, and what the party has set, each at its place.
-pub(crate) fn lay_task(kept: Weights, limits: &[f64; 32], party: Party, task: &mut [f64])
+// The weights in force, the limits, what the party has set, and the tools, each at its place.
+pub(crate) fn lay_task(
+    kept: Weights,
+    limits: &[f64; 32],
+    tools: &[f64; 32],
+    party: Party,
+    task: &mut [f64],
+)
     requires { ⌜ length (now task) ≡ taskLength ⌝ }
-    ensures { λ _. ⌜ now (task .exit) ≡ laid (apartOf kept (lent limits) party) (lent task) ⌝ }
+    ensures { λ _. ⌜ now (task .exit) ≡ laid (apartOf kept (lent limits) (lent tools) party) (lent task) ⌝ }
 {
     let goals = party.goals;
     let history = party.history;
@@ -38,6 +44,7 @@ pub(crate) fn lay_task(kept: Weights, limits: &[f64; 32], party: Party, task: &m
         &xopt,
         &prev_state,
         &prev_state2,
+        tools,
         task,
     );
 }

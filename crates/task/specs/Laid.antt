@@ -19,14 +19,15 @@ pub record Apart : Type 0 where
   pub xopt : List Float
   pub «prev_state» : List Float
   pub «prev_state2» : List Float
+  pub tools : List Float
 
-abbrev pub apart : List Float → List Float → List Float → List Float → List Float → List Float → Apart
-apart weights limits goals xopt prev prev2 =
-    record { weights = weights; limits = limits; goals = goals; xopt = xopt; «prev_state» = prev; «prev_state2» = prev2 }
+abbrev pub apart : List Float → List Float → List Float → List Float → List Float → List Float → List Float → Apart
+apart weights limits goals xopt prev prev2 tools =
+    record { weights = weights; limits = limits; goals = goals; xopt = xopt; «prev_state» = prev; «prev_state2» = prev2; tools = tools }
 
 -- of lists as they are lent: the history is one list, of blocks of n floats
-abbrev pub apartIn : List Float → List Float → List Float → List Float → ℕ → Apart
-apartIn weights limits goals history n = apart weights limits goals (part 0 n history) (part n n history) (part (2 * n) n history)
+abbrev pub apartIn : List Float → List Float → List Float → List Float → List Float → ℕ → Apart
+apartIn weights limits goals history tools n = apart weights limits goals (part 0 n history) (part n n history) (part (2 * n) n history) tools
 
 -- each in its place
 unfoldable pub laid : Apart → List Float → List Float
@@ -36,7 +37,8 @@ laid a t =
     let t₃ = splice t₂ 40 (a .goals) in
     let t₄ = splice t₃ 92 (a .xopt) in
     let t₅ = splice t₄ 108 (a .«prev_state») in
-    splice t₅ 124 (a .«prev_state2»)
+    let t₆ = splice t₅ 124 (a .«prev_state2») in
+    splice t₆ 140 (a .tools)
 
 -- none is longer than its place
 pub record Fit (a : Apart) : Type 0 where
@@ -46,6 +48,7 @@ pub record Fit (a : Apart) : Type 0 where
   pub xopt : length (a .xopt) ≤ 16
   pub «prev_state» : length (a .«prev_state») ≤ 16
   pub «prev_state2» : length (a .«prev_state2») ≤ 16
+  pub tools : length (a .tools) ≤ 32
 
 -- each holds what is in use
 pub record Full (ns cs : List ℕ) (a : Apart) : Type 0 where
@@ -55,6 +58,7 @@ pub record Full (ns cs : List ℕ) (a : Apart) : Type 0 where
   pub xopt : joints cs ≤ length (a .xopt)
   pub «prev_state» : joints cs ≤ length (a .«prev_state»)
   pub «prev_state2» : joints cs ≤ length (a .«prev_state2»)
+  pub tools : 8 * length ns ≤ length (a .tools)
 
 -- what the objectives look at, of the lists apart: of each its front in use
 unfoldable pub givenApart : List ℕ → List ℕ → Apart → Given
@@ -68,6 +72,7 @@ givenApart ns cs a =
       xopt = take (joints cs) (a .xopt);
       «prev_state» = take (joints cs) (a .«prev_state»);
       «prev_state2» = take (joints cs) (a .«prev_state2»);
+      tools = take (8 * length ns) (a .tools);
     }
 
 -- ---- laws: a part after a list was written
@@ -147,9 +152,20 @@ module _ (a : Apart) (t : List Float) (whole : length t ≡ taskLength) (fit : F
   unfolding t₆
   l₆ = length-splice t₅ 124 (a .«prev_state2») (omega (arith, l₅)) ∙ l₅
 
-  after₆ : (at n : ℕ) → at + n ≤ taskLength → part at n (laid a t) ≡ part at n t₆
-  unfolding laid t₁ t₂ t₃ t₄ t₅ t₆
-  after₆ at n h = refl
+  t₇ : List Float
+  t₇ = splice t₆ 140 (a .tools)
+
+  l₇ : length t₇ ≡ taskLength
+  unfolding t₇
+  l₇ = length-splice t₆ 140 (a .tools) (omega (arith, l₆)) ∙ l₆
+
+  after₇ : (at n : ℕ) → at + n ≤ taskLength → part at n (laid a t) ≡ part at n t₇
+  unfolding laid t₁ t₂ t₃ t₄ t₅ t₆ t₇
+  after₇ at n h = refl
+
+  after₆ : (at n : ℕ) → at + n ≤ 140 → part at n (laid a t) ≡ part at n t₆
+  unfolding t₇
+  after₆ at n h = after₇ at n (omega arith) ∙ part-before t₆ 140 (a .tools) at n h (omega (arith, l₆))
 
   after₅ : (at n : ℕ) → at + n ≤ 124 → part at n (laid a t) ≡ part at n t₅
   unfolding t₆
@@ -173,7 +189,7 @@ module _ (a : Apart) (t : List Float) (whole : length t ≡ taskLength) (fit : F
 
   -- what the objectives look at, of a list that was laid
   pub laid-given : (ns cs : List ℕ) → Full ns cs a → length ns ≤ 4 → joints cs ≤ 16 → givenOf ns cs (laid a t) ≡ givenApart ns cs a
-  unfolding givenOf givenApart t₁ t₂ t₃ t₄ t₅ t₆
+  unfolding givenOf givenApart t₁ t₂ t₃ t₄ t₅ t₆ t₇
   laid-given ns cs full few moving =
       let n : ℕ = joints cs in
       let e₁ : part 0 8 (laid a t) ≡ take 8 (a .weights) = after₁ 0 8 (omega arith) ∙ part-own t 0 (a .weights) 8 (omega arith) (omega arith) in
@@ -182,4 +198,5 @@ module _ (a : Apart) (t : List Float) (whole : length t ≡ taskLength) (fit : F
       let e₄ : part 92 n (laid a t) ≡ take n (a .xopt) = after₄ 92 n (omega arith) ∙ part-own t₃ 92 (a .xopt) n (omega (arith, l₃)) (omega arith) in
       let e₅ : part 108 n (laid a t) ≡ take n (a .«prev_state») = after₅ 108 n (omega arith) ∙ part-own t₄ 108 (a .«prev_state») n (omega (arith, l₄)) (omega arith) in
       let e₆ : part 124 n (laid a t) ≡ take n (a .«prev_state2») = after₆ 124 n (omega arith) ∙ part-own t₅ 124 (a .«prev_state2») n (omega (arith, l₅)) (omega arith) in
-      rw (e₁, e₂, e₃, e₄, e₅, e₆)
+      let e₇ : part 140 (8 * length ns) (laid a t) ≡ take (8 * length ns) (a .tools) = after₇ 140 (8 * length ns) (omega arith) ∙ part-own t₆ 140 (a .tools) (8 * length ns) (omega (arith, l₆)) (omega arith) in
+      rw (e₁, e₂, e₃, e₄, e₅, e₆, e₇)

@@ -31,11 +31,14 @@ prevStateOf n task = part 108 n task
 abbrev pub prevState2Of : ℕ → List Float → List Float
 prevState2Of n task = part 124 n task
 
+abbrev pub toolsOf : ℕ → List Float → List Float
+toolsOf c task = part 140 (8 * c) task
+
 -- where the last part ends
 abbrev pub taskLength : ℕ
-taskLength = 140
+taskLength = 172
 
--- what the objectives look at beside poses and joints: links per chain, codes, weights, limits, goals, and the three newest joint blocks of the history
+-- what the objectives look at beside poses and joints: links per chain, codes, weights, limits, goals, the three newest joint blocks of the history, and tools
 pub record Given : Type 0 where
   pub counts : List ℕ
   pub codes : List ℕ
@@ -45,6 +48,7 @@ pub record Given : Type 0 where
   pub xopt : List Float
   pub «prev_state» : List Float
   pub «prev_state2» : List Float
+  pub tools : List Float
 
 -- of the list
 unfoldable pub givenOf : List ℕ → List ℕ → List Float → Given
@@ -58,6 +62,7 @@ givenOf ns cs task =
       xopt = xoptOf (joints cs) task;
       «prev_state» = prevStateOf (joints cs) task;
       «prev_state2» = prevState2Of (joints cs) task;
+      tools = toolsOf (length ns) task;
     }
 
 -- ---- of a function's parameters

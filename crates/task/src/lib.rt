@@ -3,4 +3,4 @@ pub mod lay;
 pub mod parts;
 
 // The list's length.
-pub const LENGTH: usize = 140;
+pub const LENGTH: usize = 172;

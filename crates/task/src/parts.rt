@@ -2,7 +2,7 @@
 ghost use mathlib.Core.Path.{_≡_};
 ghost use Prim.Native.Nat.{_+_, _*_, _≤_};
 ghost use lib.ListN.{length};
-ghost use Rattle.task.specs.Task.{part, taskLength, weightsOf, limitsOf, goalsOf, xoptOf, prevStateOf, prevState2Of};
+ghost use Rattle.task.specs.Task.{part, taskLength, weightsOf, limitsOf, goalsOf, xoptOf, prevStateOf, prevState2Of, toolsOf};
 
 pub(crate) fn part(task: &[f64], at: usize, n: usize) -> &[f64]
     requires { ⌜ at + n ≤ length (now task) ⌝ }
@@ -52,4 +52,11 @@ pub fn prev_state2(task: &[f64], joints: usize) -> &[f64]
     ensures { λ r. ⌜ (now r ≡ prevState2Of joints (now (task .entry))) × (length (now r) ≡ joints) ⌝ }
 {
     part(task, 124, joints)
+}
+
+pub fn tools(task: &[f64], chains: usize) -> &[f64]
+    requires { ⌜ (length (now task) ≡ taskLength) × (chains ≤ 4) ⌝ }
+    ensures { λ r. ⌜ (now r ≡ toolsOf chains (now (task .entry))) × (length (now r) ≡ 8 * chains) ⌝ }
+{
+    part(task, 140, 8 * chains)
 }

@@ -15,7 +15,7 @@ use Rattle.calls.proofs.frames.pose.Statement.{statement}
 use Rattle.calls.proofs.frames.pose.Tie as tie
 
 abbrev S : tie.Else1 → tie.Start
-S c = c .before .before .before .before .before .before .before
+S c = c .before .before .before .before .before .before .before .before
 
 number : (c : tie.Else1) → poseRefusal (now (S c .args .counts)) (now (S c .args .codes)) (now (S c .args .block)) (length (now (S c .args .ends))) ≡ 0
 number c = sym (c .before .pose-refusal .ensures) ∙ c .if1 .left
@@ -39,7 +39,7 @@ slice-aggregate-get-frames-immutable c = search needs
 get-frames-immutable-requires : tie.Need-get-frames-immutable-requires
 get-frames-immutable-requires c κs =
     let s = S (c .before) in
-    (sheet-of _ _ _ _ (s .pre) (passed (c .before) .0), omega (arith, s .pre))
+    (sheet-of _ _ _ _ (s .pre .0) (passed (c .before) .0), omega (arith, s .pre))
 
 slice-aggregate-put-ends : tie.Need-slice-aggregate-put-ends
 slice-aggregate-put-ends c = search needs
@@ -49,7 +49,7 @@ unfolding endsLength
 put-ends-requires c κs =
     let e = c .before .before .before .before .before in
     let s = S e in
-    (s .pre .chains, (omega (arith, s .pre, held (c .before .before .before)), omega (arith, s .pre, passed e .1)))
+    ((s .pre .0 .chains, s .pre .1), (omega (arith, s .pre, held (c .before .before .before)), omega (arith, s .pre, passed e .1)))
 
 same-length : tie.Need-same-length
 same-length c = search needs
@@ -59,7 +59,7 @@ returns-2 c =
     let g = c .before .before .before .before .before .before in
     let s = S (g .before .before) in (
       sym (number (g .before .before)),
-      c .before .before .put-ends .ensures ∙ ap (splice (now (s .args .ends)) 0) (ends-ext (now (s .args .counts)) _ _ (walked _ _ _ _ _ _ (s .pre) (omega arith) (g .get-frames-immutable .ensures)) (s .pre .chains)) ∙ sym (taken 0 _ _ refl),
+      c .before .before .put-ends .ensures ∙ ap (splice (now (s .args .ends)) 0) (ends-ext (now (s .args .counts)) _ _ (walked _ _ _ _ _ _ (s .pre .0) (omega arith) (g .get-frames-immutable .ensures)) (now (s .args .tools)) (s .pre .0 .chains)) ∙ sym (taken 0 _ _ refl),
     )
 
 pub pose-spec : {M : Type 1} → statement M

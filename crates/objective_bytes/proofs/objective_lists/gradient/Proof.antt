@@ -22,7 +22,7 @@ abbrev sheet : tie.Start → SheetLists
 sheet s = sheetWith (now (s .args .sizes)) (now (s .args .codes)) (now (s .args .floats)) (now (s .args .limits))
 
 abbrev task : tie.Start → TaskLists
-task s = taskWith (now (s .args .goals)) (now (s .args .history)) (now (s .args .weights))
+task s = taskWith (now (s .args .goals)) (now (s .args .history)) (now (s .args .weights)) (now (s .args .tools))
 
 -- what an accepted call knows
 fitted : (c : tie.Else1) → Fitted (sheet (S c)) (task (S c)) (now (S c .args .joints)) (length (now (S c .args .scratch))) (length (now (S c .args .value))) (length (now (S c .args .slopes)))
@@ -55,7 +55,7 @@ put-answers-requires : tie.Need-put-answers-requires
 put-answers-requires c κs =
     let t = fitted (c .before .before .before .before .before .before .before .before .before .before) in
     let g = c .before .before .before .before .before .before .before .slopes-on in
-    ((omega (arith, t .few, g .kept .1 .1 .1 .1 .1 .1 .1 .1 .1 .0), omega (arith, t .few, g .kept .1 .1 .1 .1 .1 .1 .1 .1 .1 .1 .0)), (t .scratch, t .value, t .slopes))
+    ((omega (arith, t .few, g .kept .1 .1 .1 .1 .1 .1 .1 .1 .1 .1 .0), omega (arith, t .few, g .kept .1 .1 .1 .1 .1 .1 .1 .1 .1 .1 .1 .0)), (t .scratch, t .value, t .slopes))
 
 same-length : tie.Need-same-length
 same-length c = search needs

@@ -12,7 +12,7 @@ use Rattle.calls.specs.Arms.{taken, refused}
 use Rattle.lent_bytes.specs.Lent.{roomIn, bytesOf}
 use Rattle.lent_bytes.specs.SheetLists.{SheetLists, sheetWith, same-two}
 use Rattle.arm_bytes.specs.ArmLaws.{bytes-fit}
-use Rattle.objective_bytes.specs.ObjectiveCalls.{TaskLists, taskWith, objectiveNumber}
+use Rattle.objective_bytes.specs.ObjectiveCalls.{TaskLists, taskWith, optionalNumber, objectiveNumber}
 use borrow.Author.Needs.{needs}
 use Rattle.objective_bytes.proofs.objective_lists.objective.Statement.{statement}
 use Rattle.objective_bytes.proofs.objective_lists.objective.Tie as tie
@@ -24,17 +24,17 @@ abbrev sheet : tie.Start → SheetLists
 sheet s = sheetWith (now (s .args .sizes)) (now (s .args .codes)) (now (s .args .floats)) (now (s .args .limits))
 
 abbrev task : tie.Start → TaskLists
-task s = taskWith (now (s .args .goals)) (now (s .args .history)) (now (s .args .weights))
+task s = taskWith (now (s .args .goals)) (now (s .args .history)) (now (s .args .weights)) (now (s .args .tools))
 
 number : (c : tie.After-first-of2) → c .first-of2 .result ≡ objectiveNumber (sheet (S c)) (task (S c)) (now (S c .args .joints)) (roomIn (length (now (S c .args .value))))
-unfolding objectiveNumber
+unfolding objectiveNumber optionalNumber
 number c =
     c .first-of2 .ensures
     ∙ same-two firstOf (c .before .before .before .before .before .task-number .ensures)
-    (c .before .first-of .ensures ∙ same-two firstOf (c .before .before .before .room-refusal .ensures ∙ ap (roomRefusal 1) (c .before .before .before .before .room .ensures)) (c .before .before .weights-refusal .ensures))
+    (c .before .first-of .ensures ∙ same-two firstOf (c .before .before .before .room-refusal .ensures ∙ ap (roomRefusal 1) (c .before .before .before .before .room .ensures)) (c .before .before .optional-number .ensures))
 
--- what an accepted call knows: 1 to 8 are passed, the output has room, and the weights are in their range
-passed : (c : tie.Else1) → (c .before .before .before .before .before .before .task-number .result ≡ 0) × (c .before .before .before .before .room-refusal .result ≡ 0) × (c .before .before .before .weights-refusal .result ≡ 0)
+-- what an accepted call knows: 1 to 8 are passed, the output has room, and weights and tools are in their ranges
+passed : (c : tie.Else1) → (c .before .before .before .before .before .before .task-number .result ≡ 0) × (c .before .before .before .before .room-refusal .result ≡ 0) × (c .before .before .before .optional-number .result ≡ 0)
 passed c =
     let p = first-none _ _ (sym (c .before .first-of2 .ensures) ∙ c .if1 .left) in
     let q = first-none _ _ (sym (c .before .before .first-of .ensures) ∙ p .1) in
@@ -49,8 +49,8 @@ room-requires c κs = search needs
 room-refusal-requires : tie.Need-room-refusal-requires
 room-refusal-requires c κs = search needs
 
-weights-refusal-requires : tie.Need-weights-refusal-requires
-weights-refusal-requires c κs = search needs
+optional-number-requires : tie.Need-optional-number-requires
+optional-number-requires c κs = search needs
 
 first-of-requires : tie.Need-first-of-requires
 first-of-requires c κs = search needs
@@ -62,7 +62,8 @@ returns : tie.Need-returns
 returns c = (number (c .before), sym (refused (c .before .first-of2 .result) _ _ (c .if1 .taken)))
 
 value-on-requires : tie.Need-value-on-requires
-value-on-requires c κs = (sym (c .before .before .before .before .before .before .task-number .ensures) ∙ passed c .0, sym (c .before .before .before .weights-refusal .ensures) ∙ passed c .2)
+unfolding optionalNumber
+value-on-requires c κs = (sym (c .before .before .before .before .before .before .task-number .ensures) ∙ passed c .0, sym (c .before .before .before .optional-number .ensures) ∙ passed c .2)
 
 slice-aggregate-put-floats : tie.Need-slice-aggregate-put-floats
 slice-aggregate-put-floats c = search needs
@@ -90,7 +91,7 @@ objective-spec =
     task-number-requires
     room-requires
     room-refusal-requires
-    weights-refusal-requires
+    optional-number-requires
     first-of-requires
     first-of-requires-2
     returns

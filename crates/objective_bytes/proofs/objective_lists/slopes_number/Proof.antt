@@ -1,9 +1,9 @@
--- `slopes_number` meets its contract: 1 to 8, then 9 for each output, then 10.
+-- `slopes_number` meets its contract: 1 to 8, then 9 for each output, then 10 and 11.
 use mathlib.Core.Path.{ap, _∙_}
 use Rattle.refusals.specs.Lowest.{firstOf}
 use Rattle.refusals.specs.Refusal.{roomRefusal}
 use Rattle.lent_bytes.specs.SheetLists.{same-two}
-use Rattle.objective_bytes.specs.ObjectiveCalls.{slopesNumber}
+use Rattle.objective_bytes.specs.ObjectiveCalls.{optionalNumber, slopesNumber}
 use borrow.Author.Needs.{needs}
 use Rattle.objective_bytes.proofs.objective_lists.slopes_number.Statement.{statement}
 use Rattle.objective_bytes.proofs.objective_lists.slopes_number.Tie as tie
@@ -32,8 +32,8 @@ room-requires-3 c κs = search needs
 room-refusal-requires-3 : tie.Need-room-refusal-requires-3
 room-refusal-requires-3 c κs = search needs
 
-weights-refusal-requires : tie.Need-weights-refusal-requires
-weights-refusal-requires c κs = search needs
+optional-number-requires : tie.Need-optional-number-requires
+optional-number-requires c κs = search needs
 
 first-of-requires : tie.Need-first-of-requires
 first-of-requires c κs = search needs
@@ -48,7 +48,7 @@ first-of-requires-4 : tie.Need-first-of-requires-4
 first-of-requires-4 c κs = search needs
 
 returns : tie.Need-returns
-unfolding slopesNumber
+unfolding slopesNumber optionalNumber
 returns c =
     let n = c .before .before .before .before .before .before .before .before .before .before .before .block-length .ensures in
     let first = c .before .before .before .before .before .before .before .before .before .room-refusal .ensures ∙ same-two roomRefusal n (c .before .before .before .before .before .before .before .before .before .before .room .ensures) in
@@ -58,7 +58,7 @@ returns c =
     ∙ same-two firstOf (c .before .before .before .before .before .before .before .before .before .before .before .before .task-number .ensures)
     (c .before .first-of3 .ensures
     ∙ same-two firstOf first
-    (c .before .before .first-of2 .ensures ∙ same-two firstOf second (c .before .before .before .first-of .ensures ∙ same-two firstOf third (c .before .before .before .before .weights-refusal .ensures))))
+    (c .before .before .first-of2 .ensures ∙ same-two firstOf second (c .before .before .before .first-of .ensures ∙ same-two firstOf third (c .before .before .before .before .optional-number .ensures))))
 
 pub slopes-number-spec : {M : Type 1} → statement M
 slopes-number-spec =
@@ -72,7 +72,7 @@ slopes-number-spec =
     room-refusal-requires-2
     room-requires-3
     room-refusal-requires-3
-    weights-refusal-requires
+    optional-number-requires
     first-of-requires
     first-of-requires-2
     first-of-requires-3

@@ -1,9 +1,10 @@
 -- `slopes_on` meets its contract: the slopes of what the history and the sheet give.
-use mathlib.Core.Path.{refl, ap, _∙_}
+use mathlib.Core.Path.{_≡_, refl, ap, _∙_}
 use mathlib.Core.List.{List}
 use native.Mathlib.Omega.{arith}
 use denote.Ref.{now}
 use lib.Ieee.{Float}
+use lib.ListN.{length}
 use Rattle.lists.specs.Splice.{splice}
 use Rattle.gradient.specs.Gradient.{valueAt, slopesOf}
 use Rattle.lent_bytes.specs.SheetLists.{SheetLists, sheetWith}
@@ -20,13 +21,17 @@ abbrev sheet : tie.Start → SheetLists
 sheet s = sheetWith (now (s .args .sizes)) (now (s .args .codes)) (now (s .args .floats)) (now (s .args .limits))
 
 abbrev task : tie.Start → TaskLists
-task s = taskWith (now (s .args .goals)) (now (s .args .history)) (now (s .args .weights))
+task s = taskWith (now (s .args .goals)) (now (s .args .history)) (now (s .args .weights)) (now (s .args .tools))
 
 abbrev joints : tie.Start → List Float
 joints s = now (s .args .joints)
 
 known : (s : tie.Start) → Taken (sheet s) (task s) (joints s)
 known s = task-taken (sheet s) (task s) (joints s) (s .pre .0)
+
+-- the tools, lent as a list, are of four chains
+four : (c : tie.After-lay-lent-arg) → length (task (c .before .before .before .before .before .before .before .before .before .before .before .before) .tools) ≡ 32
+four c = search needs
 
 links-requires : tie.Need-links-requires
 links-requires c κs = search needs
@@ -36,17 +41,17 @@ slice-aggregate-lay-lent c = search needs
 
 lay-lent-requires : tie.Need-lay-lent-requires
 lay-lent-requires c κs =
-    let t = known (c .before .before .before .before .before .before .before .before .before .before .before .before) in
-    (refl, ((omega (arith, t .block, t .few), omega (arith, t .block, t .blocks)), fit-taken _ _ _ t))
+    let t = known (c .before .before .before .before .before .before .before .before .before .before .before .before .before) in
+    (refl, ((omega (arith, t .block, t .few), omega (arith, t .block, t .blocks)), fit-taken _ _ _ t (four (c .before))))
 
 slice-aggregate-gradient : tie.Need-slice-aggregate-gradient
 slice-aggregate-gradient c = search needs
 
 gradient-requires : tie.Need-gradient-requires
 gradient-requires c κs =
-    let s = c .before .before .before .before .before .before .before .before .before .before .before .before .before .before .before .before .before in
+    let s = c .before .before .before .before .before .before .before .before .before .before .before .before .before .before .before .before .before .before in
     let t = known s in (
-      ready-taken (sheet s) _ _ t _ _ (c .before .before .before .before .before .before .links .ensures) (c .before .before .before .before .lay-lent .kept .1 .1 .1 .1 .1 .0),
+      ready-taken (sheet s) _ _ t (four (c .before .before .before .before .before .before)) _ _ (c .before .before .before .before .before .before .before .links .ensures) (c .before .before .before .before .lay-lent .kept .1 .1 .1 .1 .1 .1 .0),
       omega (arith, s .pre, t .block, t .few),
       omega (arith, s .pre, t .block, t .few),
     )
@@ -60,8 +65,8 @@ same-length-2 c = search needs
 returns : tie.Need-returns
 unfolding valueIn slopesIn
 returns c =
-    let s = c .before .before .before .before .before .before .before .before .before .before .before .before .before .before .before .before .before .before .before .before .before .before in
-    let g = laid-taken (sheet s) _ _ (known s) _ _ _ (c .before .before .before .before .before .before .before .before .before .before .before .links .ensures) refl (c .before .before .before .before .before .before .before .before .before .lay-lent .ensures) in
+    let s = c .before .before .before .before .before .before .before .before .before .before .before .before .before .before .before .before .before .before .before .before .before .before .before in
+    let g = laid-taken (sheet s) _ _ (known s) (four (c .before .before .before .before .before .before .before .before .before .before .before)) _ _ _ (c .before .before .before .before .before .before .before .before .before .before .before .before .links .ensures) refl (c .before .before .before .before .before .before .before .before .before .lay-lent .ensures) in
     let e = c .before .before .before .before .gradient .ensures in (
       e .0 ∙ ap (λ g′. valueAt g′ (now (s .args .floats)) (joints s)) g,
       (e .1 .0 ∙ ap (λ g′. splice (now (s .args .slopes)) 0 (slopesOf (s .args .rule) g′ (now (s .args .floats)) (joints s))) g, e .1 .1),

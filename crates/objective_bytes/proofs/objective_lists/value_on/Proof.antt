@@ -1,9 +1,10 @@
 -- `value_on` meets its contract: the objective of what the history and the sheet give.
-use mathlib.Core.Path.{refl, ap, _∙_}
+use mathlib.Core.Path.{_≡_, refl, ap, _∙_}
 use mathlib.Core.List.{List}
 use native.Mathlib.Omega.{arith}
 use denote.Ref.{now}
 use lib.Ieee.{Float}
+use lib.ListN.{length}
 use Rattle.gradient.specs.Gradient.{valueAt}
 use Rattle.lent_bytes.specs.SheetLists.{SheetLists, sheetWith}
 use Rattle.objective_bytes.specs.ObjectiveCalls.{TaskLists, taskWith, valueIn}
@@ -19,13 +20,17 @@ abbrev sheet : tie.Start → SheetLists
 sheet s = sheetWith (now (s .args .sizes)) (now (s .args .codes)) (now (s .args .floats)) (now (s .args .limits))
 
 abbrev task : tie.Start → TaskLists
-task s = taskWith (now (s .args .goals)) (now (s .args .history)) (now (s .args .weights))
+task s = taskWith (now (s .args .goals)) (now (s .args .history)) (now (s .args .weights)) (now (s .args .tools))
 
 abbrev joints : tie.Start → List Float
 joints s = now (s .args .joints)
 
 known : (s : tie.Start) → Taken (sheet s) (task s) (joints s)
 known s = task-taken (sheet s) (task s) (joints s) (s .pre)
+
+-- the tools, lent as a list, are of four chains
+four : (c : tie.After-lay-lent-arg) → length (task (c .before .before .before .before .before .before .before .before .before .before) .tools) ≡ 32
+four c = search needs
 
 links-requires : tie.Need-links-requires
 links-requires c κs = search needs
@@ -35,23 +40,23 @@ slice-aggregate-lay-lent c = search needs
 
 lay-lent-requires : tie.Need-lay-lent-requires
 lay-lent-requires c κs =
-    let t = known (c .before .before .before .before .before .before .before .before .before .before) in
-    (refl, ((omega (arith, t .block, t .few), omega (arith, t .block, t .blocks)), fit-taken _ _ _ t))
+    let t = known (c .before .before .before .before .before .before .before .before .before .before .before) in
+    (refl, ((omega (arith, t .block, t .few), omega (arith, t .block, t .blocks)), fit-taken _ _ _ t (four (c .before))))
 
 slice-aggregate-objective : tie.Need-slice-aggregate-objective
 slice-aggregate-objective c = search needs
 
 objective-requires : tie.Need-objective-requires
 objective-requires c κs =
-    let s = c .before .before .before .before .before .before .before .before .before .before .before .before .before in
-    ready-taken (sheet s) _ _ (known s) _ _ (c .before .before .before .before .links .ensures) (c .before .before .lay-lent .kept .1 .1 .1 .1 .1 .0)
+    let s = c .before .before .before .before .before .before .before .before .before .before .before .before .before .before in
+    ready-taken (sheet s) _ _ (known s) (four (c .before .before .before .before)) _ _ (c .before .before .before .before .before .links .ensures) (c .before .before .lay-lent .kept .1 .1 .1 .1 .1 .1 .0)
 
 returns : tie.Need-returns
 unfolding valueIn
 returns c =
-    let s = c .before .before .before .before .before .before .before .before .before .before .before .before .before .before in
+    let s = c .before .before .before .before .before .before .before .before .before .before .before .before .before .before .before in
     c .objective .ensures
-    ∙ ap (λ g. valueAt g (now (s .args .floats)) (joints s)) (laid-taken (sheet s) _ _ (known s) _ _ _ (c .before .before .before .before .before .links .ensures) refl (c .before .before .before .lay-lent .ensures))
+    ∙ ap (λ g. valueAt g (now (s .args .floats)) (joints s)) (laid-taken (sheet s) _ _ (known s) (four (c .before .before .before .before .before)) _ _ _ (c .before .before .before .before .before .before .links .ensures) refl (c .before .before .before .lay-lent .ensures))
 
 pub value-on-spec : {M : Type 1} → statement M
 value-on-spec =

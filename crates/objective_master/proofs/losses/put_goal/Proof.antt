@@ -4,6 +4,7 @@ use Prim.Native.Nat.{_*_}
 use denote.Ref.{now}
 use Rattle.geometry.specs.declared.pose.Pose.{Pose}
 use Rattle.lists.specs.Splice.{splice}
+use Rattle.spacetime.specs.Tool.{tipOf}
 use Rattle.objective_master.specs.Objective.{goalWidth}
 use Rattle.objective_master.specs.Losses.{poseLosses}
 use borrow.Author.Needs.{needs}
@@ -19,6 +20,9 @@ walked-again-requires c κs = search needs
 pose-requires : tie.Need-pose-requires
 pose-requires c κs = search needs
 
+tip-requires : tie.Need-tip-requires
+tip-requires c κs = search needs
+
 mul-put-pose-losses : tie.Need-mul-put-pose-losses
 mul-put-pose-losses c = search needs
 
@@ -30,11 +34,13 @@ same-length c = search needs
 
 returns : tie.Need-returns
 returns c =
-    let a = c .before .before .before .before .before .before .before .before .before .before .before .args in
-    c .before .before .put-pose-losses .ensures ∙ ap (λ (p : Pose). splice (now (a .out)) (goalWidth * a .c) (poseLosses (now (a .goals)) (a .c) p)) (c .before .before .before .before .pose .ensures)
+    let a = c .before .before .before .before .before .before .before .before .before .before .before .before .before .args in
+    c .before .before .put-pose-losses .ensures
+    ∙ ap (λ (p : Pose). splice (now (a .out)) (goalWidth * a .c) (poseLosses (now (a .goals)) (a .c) p))
+    (c .before .before .before .before .tip .ensures ∙ ap (tipOf (now (a .tools)) (a .c)) (c .before .before .before .before .before .pose .ensures))
 
 returns-2 : tie.Need-returns-2
-returns-2 c = c .before .before .before .before .before .before .pre .1 .1 (sym (c .before .walked-again .ensures) ∙ c .if1 .left)
+returns-2 c = c .before .before .before .before .before .before .before .pre .1 .1 (sym (c .before .walked-again .ensures) ∙ c .if1 .left)
 
 pub put-goal-spec : {M : Type 1} → statement M
 put-goal-spec =
@@ -42,6 +48,7 @@ put-goal-spec =
     (tie.spec
     walked-again-requires
     pose-requires
+    tip-requires
     mul-put-pose-losses
     put-pose-losses-requires
     same-length

@@ -20,25 +20,25 @@ use Rattle.objective_master.proofs.losses.put_goals.Tie as tie
 use Rattle.objective_master.proofs.losses.put_goal.Reads as put-goal-reads
 
 abbrev Inv-loop : tie.InvT-loop
-Inv-loop counts goals base tail from to out₀ l₀ c₀ out l c =
+Inv-loop counts goals tools base tail from to out₀ l₀ c₀ out l c =
     (c ≤ length counts) × (l ≡ chainStart counts c) × (length out ≡ length out₀)
-    × (out ≡ splice out₀ 0 (runs (goalLosses counts goals (viewOf base tail from to)) 0 c))
+    × (out ≡ splice out₀ 0 (runs (goalLosses counts goals tools (viewOf base tail from to)) 0 c))
 
 abbrev μ-loop : tie.MeasureT-loop
-μ-loop counts goals base tail from to out₀ l₀ c₀ out l c = length counts - c
+μ-loop counts goals tools base tail from to out₀ l₀ c₀ out l c = length counts - c
 
-abbrev S : tie.After-shared-slice-known5 Inv-loop μ-loop → tie.Start Inv-loop μ-loop
-S c = c .before .before .before .before .before .before .before .before
+abbrev S : tie.After-shared-slice-known6 Inv-loop μ-loop → tie.Start Inv-loop μ-loop
+S c = c .before .before .before .before .before .before .before .before .before
 
-within : (c : tie.After-shared-slice-known5 Inv-loop μ-loop) → chainStart (now (S c .args .counts)) (c .before .before .loop .c) + getD (now (S c .args .counts)) (c .before .before .loop .c) 0 ≤ total (now (S c .args .counts))
+within : (c : tie.After-shared-slice-known6 Inv-loop μ-loop) → chainStart (now (S c .args .counts)) (c .before .before .loop .c) + getD (now (S c .args .counts)) (c .before .before .loop .c) 0 ≤ total (now (S c .args .counts))
 within c = chain-within (now (S c .args .counts)) (c .before .before .loop .c) (omega arith)
 
-some : (c : tie.After-shared-slice-known5 Inv-loop μ-loop) → 0 < getD (now (S c .args .counts)) (c .before .before .loop .c) 0
+some : (c : tie.After-shared-slice-known6 Inv-loop μ-loop) → 0 < getD (now (S c .args .counts)) (c .before .before .loop .c) 0
 some c = S c .pre .0 .0 .some (c .before .before .loop .c) (omega arith)
 
 loop-holds : tie.Need-loop-holds Inv-loop μ-loop
 unfolding chainStart
-loop-holds c = (omega arith, refl, refl, splice-none (goalLosses _ _ _) _ 0 0)
+loop-holds c = (omega arith, refl, refl, splice-none (goalLosses _ _ _ _) _ 0 0)
 
 mul-end : tie.Need-mul-end Inv-loop μ-loop
 mul-end c = omega arith
@@ -47,7 +47,7 @@ shared-slice-read-end : tie.Need-shared-slice-read-end Inv-loop μ-loop
 shared-slice-read-end c = omega arith
 
 cast-end : tie.Need-cast-end Inv-loop μ-loop
-cast-end c = omega (arith, c .shared-slice-known5 .given (c .before .before .loop .c))
+cast-end c = omega (arith, c .shared-slice-known6 .given (c .before .before .loop .c))
 
 add-end : tie.Need-add-end Inv-loop μ-loop
 add-end c = omega (arith, within c)
@@ -59,18 +59,19 @@ put-goal-requires : tie.Need-put-goal-requires Inv-loop μ-loop
 put-goal-requires c κs =
     let k = c .before in
     let l = k .before .before in
-    let s = l .before .before .before .before .before .before in
+    let s = l .before .before .before .before .before .before .before in
     let a = s .args in
     let ns = now (a .counts) in
     let G = now (a .goals) in
+    let T = now (a .tools) in
     let P : ℕ → Pose = viewOf (now (a .base)) (now (a .tail)) (a .from) (a .to) in
     let r = s .pre .1 .1 in
     let v = s .pre .1 .0 in (
-      (omega (arith, s .pre .0), omega (arith, r .room, l .loop .inv .2)),
+      (omega (arith, s .pre .0), omega (arith, s .pre .0), omega (arith, r .room, l .loop .inv .2)),
       (
         record { first = omega (arith, v .first, within k, some k); again = v .again },
-        goal-cached ns G P (a .from) (a .to) (l .loop .c) (l .loop .l) (goalWidth * l .loop .c) (l .loop .out) (l .loop .inv .1)
-            (piece-turn (goalLosses ns G P) goalWidth (goal-length ns G P) (endAgain ns (a .from) (a .to)) 0 (length ns) (now (a .out)) (l .loop .out) (l .loop .c) (goalWidth * l .loop .c) r (l .loop .inv .3)
+        goal-cached ns G T P (a .from) (a .to) (l .loop .c) (l .loop .l) (goalWidth * l .loop .c) (l .loop .out) (l .loop .inv .1)
+            (piece-turn (goalLosses ns G T P) goalWidth (goal-length ns G T P) (endAgain ns (a .from) (a .to)) 0 (length ns) (now (a .out)) (l .loop .out) (l .loop .c) (goalWidth * l .loop .c) r (l .loop .inv .3)
             (omega arith) (omega arith) (omega arith)),
       ),
     )
@@ -85,15 +86,15 @@ loop-again : tie.Need-loop-again Inv-loop μ-loop
 loop-again c =
     let p = c .before .before in
     let l = p .before .before .before .before in
-    let s = l .before .before .before .before .before .before in
+    let s = l .before .before .before .before .before .before .before in
     let a = s .args in
     let ns = now (a .counts) in
-    let f : ℕ → List Float = goalLosses ns (now (a .goals)) (viewOf (now (a .base)) (now (a .tail)) (a .from) (a .to)) in
+    let f : ℕ → List Float = goalLosses ns (now (a .goals)) (now (a .tools)) (viewOf (now (a .base)) (now (a .tail)) (a .from) (a .to)) in
     let k = l .loop .c in
-    let e : p .put-goal .last .1 .1 .1 .1 .1 .1 .1 .0 ≡ splice (l .loop .out) (goalWidth * k) (f k) =
-    p .put-goal .ensures ∙ ap (splice (l .loop .out) (goalWidth * k)) (goal-is ns (now (a .goals)) (viewOf (now (a .base)) (now (a .tail)) (a .from) (a .to)) k (l .loop .l) (l .loop .inv .1)) in
-    let n : length (runs f 0 k) ≡ k * goalWidth = length-runs f goalWidth (goal-length _ _ _) 0 k in
-    let wide : length (f k) ≡ goalWidth = goal-length _ _ _ k in
+    let e : p .put-goal .last .1 .1 .1 .1 .1 .1 .1 .1 .0 ≡ splice (l .loop .out) (goalWidth * k) (f k) =
+    p .put-goal .ensures ∙ ap (splice (l .loop .out) (goalWidth * k)) (goal-is ns (now (a .goals)) (now (a .tools)) (viewOf (now (a .base)) (now (a .tail)) (a .from) (a .to)) k (l .loop .l) (l .loop .inv .1)) in
+    let n : length (runs f 0 k) ≡ k * goalWidth = length-runs f goalWidth (goal-length _ _ _ _) 0 k in
+    let wide : length (f k) ≡ goalWidth = goal-length _ _ _ _ k in
     let room = s .pre .1 .1 .room in (
       omega arith,
       ap (λ (m : ℕ). m + getD ns k 0) (l .loop .inv .1) ∙ sym (chain-start-next ns k),
@@ -107,8 +108,8 @@ same-length c = c .before .loop .inv .2
 returns : tie.Need-returns Inv-loop μ-loop
 returns c =
     let l = c .before in
-    let a = l .before .before .before .before .before .before .args in
-    let f : ℕ → List Float = goalLosses (now (a .counts)) (now (a .goals)) (viewOf (now (a .base)) (now (a .tail)) (a .from) (a .to)) in
+    let a = l .before .before .before .before .before .before .before .args in
+    let f : ℕ → List Float = goalLosses (now (a .counts)) (now (a .goals)) (now (a .tools)) (viewOf (now (a .base)) (now (a .tail)) (a .from) (a .to)) in
     let e : l .loop .c ≡ length (now (a .counts)) = omega arith in
     l .loop .inv .3 ∙ ap (λ (k : ℕ). splice (now (a .out)) 0 (runs f 0 k)) e
 

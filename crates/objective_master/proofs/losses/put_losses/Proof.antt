@@ -1,5 +1,5 @@
 -- `put_losses` meets its contract: section after section, each behind those before it.
-use mathlib.Core.Path.{_≡_, refl, sym, ap, subst, _∙_}
+use mathlib.Core.Path.{_≡_, refl, sym, ap, ap₂, subst, _∙_}
 use mathlib.Core.Bool.{Bool}
 use mathlib.Core.List.{List}
 use Prim.Native.Nat.{ℕ, _+_, _*_}
@@ -30,10 +30,13 @@ use Rattle.task.proofs.parts.limits.Reads as limits-reads
 goals-requires : tie.Need-goals-requires
 goals-requires c κs = search needs
 
+tools-requires : tie.Need-tools-requires
+tools-requires c κs = search needs
+
 put-goals-requires : tie.Need-put-goals-requires
 unfolding givenOf
 put-goals-requires c κs =
-    let s = c .before .before .before .before .before .before .before .before .before in
+    let s = c .before .before .before .before .before .before .before .before .before .before in
     let a = s .args in
     let ns = now (a .counts) in
     let G : Given = givenOf ns (now (a .codes)) (now (a .task)) in
@@ -45,10 +48,11 @@ put-goals-requires c κs =
     let k = s .pre .1 in
     let w = t .paired .counted .whole in
     let v = t .values in (
-      (t .chains, omega (arith, c .before .goals .ensures .1)),
+      (t .chains, omega (arith, c .before .before .goals .ensures .1), omega (arith, c .before .tools .ensures .1)),
       (
         record { first = omega (arith, t .view .first, w); again = t .view .again },
-        subst (λ (gs : List Float). CachedPieces (goalLosses ns gs P) goalWidth (endAgain ns (W .from) (W .to)) 0 (length ns) o) (sym (c .before .goals .ensures .0)) (goals-cached G P X (W .from) (W .to) (W .joint) o k w v),
+        subst (λ (gs : List Float). CachedPieces (goalLosses ns gs (now (c .before .tools .result)) P) goalWidth (endAgain ns (W .from) (W .to)) 0 (length ns) o) (sym (c .before .before .goals .ensures .0))
+            (subst (λ (ts : List Float). CachedPieces (goalLosses ns (G .goals) ts P) goalWidth (endAgain ns (W .from) (W .to)) 0 (length ns) o) (sym (c .before .tools .ensures .0)) (goals-cached G P X (W .from) (W .to) (W .joint) o k w v)),
       ),
     )
 
@@ -61,7 +65,7 @@ limits-requires c κs = search needs
 put-limits-requires : tie.Need-put-limits-requires
 unfolding givenOf
 put-limits-requires c κs =
-    let s = c .before .before .before .before .before .before .before .before .before .before .before .before .before .before in
+    let s = c .before .before .before .before .before .before .before .before .before .before .before .before .before .before .before in
     let a = s .args in
     let ns = now (a .counts) in
     let G : Given = givenOf ns (now (a .codes)) (now (a .task)) in
@@ -73,11 +77,11 @@ put-limits-requires c κs =
     let k = s .pre .1 in
     let w = t .paired .counted .whole in
     let v = t .values in
-    let e₁ : c .before .before .before .before .put-goals .last .1 .1 .1 .1 .1 .1 .0 ≡ splice o 0 (runs (goalLosses ns (G .goals) P) 0 (length ns)) =
-    c .before .before .before .before .put-goals .ensures ∙ ap (λ (gs : List Float). splice o 0 (runs (goalLosses ns gs P) 0 (length ns))) (c .before .before .before .before .before .before .goals .ensures .0) in
+    let e₁ : c .before .before .before .before .put-goals .last .1 .1 .1 .1 .1 .1 .1 .0 ≡ splice o 0 (runs (goalLosses ns (G .goals) (G .tools) P) 0 (length ns)) =
+    c .before .before .before .before .put-goals .ensures ∙ ap₂ (λ (gs ts : List Float). splice o 0 (runs (goalLosses ns gs ts P) 0 (length ns))) (c .before .before .before .before .before .before .before .goals .ensures .0) (c .before .before .before .before .before .before .tools .ensures .0) in
     let q : now (c .before .limits .result) ≡ G .limits = c .before .limits .ensures .0 ∙ ap (λ (m : ℕ). limitsOf m (now (a .task))) v in (
       omega (arith, c .before .limits .ensures .1),
-      subst (λ (ls : List Float). CachedPieces (limitLosses ls X) 1 (isRaised (W .joint)) (goalWidth * length ns) (length X) (c .before .before .before .before .put-goals .last .1 .1 .1 .1 .1 .1 .0)) (sym q)
+      subst (λ (ls : List Float). CachedPieces (limitLosses ls X) 1 (isRaised (W .joint)) (goalWidth * length ns) (length X) (c .before .before .before .before .put-goals .last .1 .1 .1 .1 .1 .1 .1 .0)) (sym q)
           (limits-cached G P X (W .from) (W .to) (W .joint) o k w v _ (length-one G P X o _ w v (k .room) e₁) (goalWidth * length ns) refl (behind-one G P X o _ w v (k .room) e₁)),
     )
 
@@ -87,7 +91,7 @@ add-m c = search needs
 put-motion-requires : tie.Need-put-motion-requires
 unfolding givenOf
 put-motion-requires c κs =
-    let s = c .before .before .before .before .before .before .before .before .before .before .before .before .before .before .before .before .before .before in
+    let s = c .before .before .before .before .before .before .before .before .before .before .before .before .before .before .before .before .before .before .before in
     let a = s .args in
     let ns = now (a .counts) in
     let G : Given = givenOf ns (now (a .codes)) (now (a .task)) in
@@ -99,9 +103,9 @@ put-motion-requires c κs =
     let k = s .pre .1 in
     let w = t .paired .counted .whole in
     let v = t .values in
-    let e₁ : c .before .before .before .before .before .before .before .before .put-goals .last .1 .1 .1 .1 .1 .1 .0 ≡ splice o 0 (runs (goalLosses ns (G .goals) P) 0 (length ns)) =
-    c .before .before .before .before .before .before .before .before .put-goals .ensures ∙ ap (λ (gs : List Float). splice o 0 (runs (goalLosses ns gs P) 0 (length ns))) (c .before .before .before .before .before .before .before .before .before .before .goals .ensures .0) in
-    let o₁ : List Float = c .before .before .before .before .before .before .before .before .put-goals .last .1 .1 .1 .1 .1 .1 .0 in
+    let e₁ : c .before .before .before .before .before .before .before .before .put-goals .last .1 .1 .1 .1 .1 .1 .1 .0 ≡ splice o 0 (runs (goalLosses ns (G .goals) (G .tools) P) 0 (length ns)) =
+    c .before .before .before .before .before .before .before .before .put-goals .ensures ∙ ap₂ (λ (gs ts : List Float). splice o 0 (runs (goalLosses ns gs ts P) 0 (length ns))) (c .before .before .before .before .before .before .before .before .before .before .before .goals .ensures .0) (c .before .before .before .before .before .before .before .before .before .before .tools .ensures .0) in
+    let o₁ : List Float = c .before .before .before .before .before .before .before .before .put-goals .last .1 .1 .1 .1 .1 .1 .1 .0 in
     let q : now (c .before .before .before .before .before .limits .result) ≡ G .limits = c .before .before .before .before .before .limits .ensures .0 ∙ ap (λ (m : ℕ). limitsOf m (now (a .task))) v in
     let e₂ : c .before .before .before .put-limits .last .1 .1 .1 .1 .0 ≡ splice o₁ (goalWidth * length ns) (runs (limitLosses (G .limits) X) 0 (length X)) =
     c .before .before .before .put-limits .ensures ∙ ap (λ (ls : List Float). splice o₁ (goalWidth * length ns) (runs (limitLosses ls X) 0 (length X))) q in
@@ -113,25 +117,6 @@ any-nan-requires c κs = search needs
 add-put-pairs : tie.Need-add-put-pairs
 unfolding givenOf
 add-put-pairs c =
-    let s = c .before .before .before .before .before .before .before .before .before .before .before .before .before .before .before .before .before .before .before .before .before .before in
-    let a = s .args in
-    let ns = now (a .counts) in
-    let G : Given = givenOf ns (now (a .codes)) (now (a .task)) in
-    let W = a .walked in
-    let P : ℕ → Pose = viewOf (now (a .base)) (now (a .tail)) (W .from) (W .to) in
-    let X = now (a .x) in
-    let o = now (a .out) in
-    let t = s .pre .0 in
-    let k = s .pre .1 in
-    let w = t .paired .counted .whole in
-    let v = t .values in
-    let e₁ : c .before .before .before .before .before .before .before .before .before .before .before .before .put-goals .last .1 .1 .1 .1 .1 .1 .0 ≡ splice o 0 (runs (goalLosses ns (G .goals) P) 0 (length ns)) =
-    c .before .before .before .before .before .before .before .before .before .before .before .before .put-goals .ensures ∙ ap (λ (gs : List Float). splice o 0 (runs (goalLosses ns gs P) 0 (length ns))) (c .before .before .before .before .before .before .before .before .before .before .before .before .before .before .goals .ensures .0) in
-    omega (arith, s .good, k .room, enough G P X o _ w v (k .room) e₁)
-
-put-pairs-requires : tie.Need-put-pairs-requires
-unfolding givenOf
-put-pairs-requires c κs =
     let s = c .before .before .before .before .before .before .before .before .before .before .before .before .before .before .before .before .before .before .before .before .before .before .before in
     let a = s .args in
     let ns = now (a .counts) in
@@ -144,9 +129,28 @@ put-pairs-requires c κs =
     let k = s .pre .1 in
     let w = t .paired .counted .whole in
     let v = t .values in
-    let e₁ : c .before .before .before .before .before .before .before .before .before .before .before .before .before .put-goals .last .1 .1 .1 .1 .1 .1 .0 ≡ splice o 0 (runs (goalLosses ns (G .goals) P) 0 (length ns)) =
-    c .before .before .before .before .before .before .before .before .before .before .before .before .before .put-goals .ensures ∙ ap (λ (gs : List Float). splice o 0 (runs (goalLosses ns gs P) 0 (length ns))) (c .before .before .before .before .before .before .before .before .before .before .before .before .before .before .before .goals .ensures .0) in
-    let o₁ : List Float = c .before .before .before .before .before .before .before .before .before .before .before .before .before .put-goals .last .1 .1 .1 .1 .1 .1 .0 in
+    let e₁ : c .before .before .before .before .before .before .before .before .before .before .before .before .put-goals .last .1 .1 .1 .1 .1 .1 .1 .0 ≡ splice o 0 (runs (goalLosses ns (G .goals) (G .tools) P) 0 (length ns)) =
+    c .before .before .before .before .before .before .before .before .before .before .before .before .put-goals .ensures ∙ ap₂ (λ (gs ts : List Float). splice o 0 (runs (goalLosses ns gs ts P) 0 (length ns))) (c .before .before .before .before .before .before .before .before .before .before .before .before .before .before .before .goals .ensures .0) (c .before .before .before .before .before .before .before .before .before .before .before .before .before .before .tools .ensures .0) in
+    omega (arith, s .good, k .room, enough G P X o _ w v (k .room) e₁)
+
+put-pairs-requires : tie.Need-put-pairs-requires
+unfolding givenOf
+put-pairs-requires c κs =
+    let s = c .before .before .before .before .before .before .before .before .before .before .before .before .before .before .before .before .before .before .before .before .before .before .before .before in
+    let a = s .args in
+    let ns = now (a .counts) in
+    let G : Given = givenOf ns (now (a .codes)) (now (a .task)) in
+    let W = a .walked in
+    let P : ℕ → Pose = viewOf (now (a .base)) (now (a .tail)) (W .from) (W .to) in
+    let X = now (a .x) in
+    let o = now (a .out) in
+    let t = s .pre .0 in
+    let k = s .pre .1 in
+    let w = t .paired .counted .whole in
+    let v = t .values in
+    let e₁ : c .before .before .before .before .before .before .before .before .before .before .before .before .before .put-goals .last .1 .1 .1 .1 .1 .1 .1 .0 ≡ splice o 0 (runs (goalLosses ns (G .goals) (G .tools) P) 0 (length ns)) =
+    c .before .before .before .before .before .before .before .before .before .before .before .before .before .put-goals .ensures ∙ ap₂ (λ (gs ts : List Float). splice o 0 (runs (goalLosses ns gs ts P) 0 (length ns))) (c .before .before .before .before .before .before .before .before .before .before .before .before .before .before .before .before .goals .ensures .0) (c .before .before .before .before .before .before .before .before .before .before .before .before .before .before .before .tools .ensures .0) in
+    let o₁ : List Float = c .before .before .before .before .before .before .before .before .before .before .before .before .before .put-goals .last .1 .1 .1 .1 .1 .1 .1 .0 in
     let q : now (c .before .before .before .before .before .before .before .before .before .before .limits .result) ≡ G .limits = c .before .before .before .before .before .before .before .before .before .before .limits .ensures .0 ∙ ap (λ (m : ℕ). limitsOf m (now (a .task))) v in
     let e₂ : c .before .before .before .before .before .before .before .before .put-limits .last .1 .1 .1 .1 .0 ≡ splice o₁ (goalWidth * length ns) (runs (limitLosses (G .limits) X) 0 (length X)) =
     c .before .before .before .before .before .before .before .before .put-limits .ensures ∙ ap (λ (ls : List Float). splice o₁ (goalWidth * length ns) (runs (limitLosses ls X) 0 (length X))) q in
@@ -168,7 +172,7 @@ same-length c = search needs
 returns : tie.Need-returns
 unfolding givenOf
 returns c =
-    let s = c .before .before .before .before .before .before .before .before .before .before .before .before .before .before .before .before .before .before .before .before .before .before .before .before .before .before in
+    let s = c .before .before .before .before .before .before .before .before .before .before .before .before .before .before .before .before .before .before .before .before .before .before .before .before .before .before .before in
     let a = s .args in
     let ns = now (a .counts) in
     let G : Given = givenOf ns (now (a .codes)) (now (a .task)) in
@@ -180,9 +184,9 @@ returns c =
     let k = s .pre .1 in
     let w = t .paired .counted .whole in
     let v = t .values in
-    let e₁ : c .before .before .before .before .before .before .before .before .before .before .before .before .before .before .before .before .put-goals .last .1 .1 .1 .1 .1 .1 .0 ≡ splice o 0 (runs (goalLosses ns (G .goals) P) 0 (length ns)) =
-    c .before .before .before .before .before .before .before .before .before .before .before .before .before .before .before .before .put-goals .ensures ∙ ap (λ (gs : List Float). splice o 0 (runs (goalLosses ns gs P) 0 (length ns))) (c .before .before .before .before .before .before .before .before .before .before .before .before .before .before .before .before .before .before .goals .ensures .0) in
-    let o₁ : List Float = c .before .before .before .before .before .before .before .before .before .before .before .before .before .before .before .before .put-goals .last .1 .1 .1 .1 .1 .1 .0 in
+    let e₁ : c .before .before .before .before .before .before .before .before .before .before .before .before .before .before .before .before .put-goals .last .1 .1 .1 .1 .1 .1 .1 .0 ≡ splice o 0 (runs (goalLosses ns (G .goals) (G .tools) P) 0 (length ns)) =
+    c .before .before .before .before .before .before .before .before .before .before .before .before .before .before .before .before .put-goals .ensures ∙ ap₂ (λ (gs ts : List Float). splice o 0 (runs (goalLosses ns gs ts P) 0 (length ns))) (c .before .before .before .before .before .before .before .before .before .before .before .before .before .before .before .before .before .before .before .goals .ensures .0) (c .before .before .before .before .before .before .before .before .before .before .before .before .before .before .before .before .before .before .tools .ensures .0) in
+    let o₁ : List Float = c .before .before .before .before .before .before .before .before .before .before .before .before .before .before .before .before .put-goals .last .1 .1 .1 .1 .1 .1 .1 .0 in
     let q : now (c .before .before .before .before .before .before .before .before .before .before .before .before .before .limits .result) ≡ G .limits = c .before .before .before .before .before .before .before .before .before .before .before .before .before .limits .ensures .0 ∙ ap (λ (m : ℕ). limitsOf m (now (a .task))) v in
     let e₂ : c .before .before .before .before .before .before .before .before .before .before .before .put-limits .last .1 .1 .1 .1 .0 ≡ splice o₁ (goalWidth * length ns) (runs (limitLosses (G .limits) X) 0 (length X)) =
     c .before .before .before .before .before .before .before .before .before .before .before .put-limits .ensures ∙ ap (λ (ls : List Float). splice o₁ (goalWidth * length ns) (runs (limitLosses ls X) 0 (length X))) q in
@@ -200,6 +204,7 @@ put-losses-spec =
     tie.close
     (tie.spec
     goals-requires
+    tools-requires
     put-goals-requires
     mul-n
     limits-requires

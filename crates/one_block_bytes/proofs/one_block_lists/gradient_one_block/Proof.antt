@@ -26,7 +26,7 @@ abbrev S : tie.Else1 → tie.Start
 S c = c .before .before .before .before .before .before .before .before .before .before .before .before .before .before .before .before
 
 -- what an accepted call knows
-fitted : (c : tie.Else1) → Fitted (sheet (S c)) (taskWith (now (S c .args .goals)) (now (S c .args .history)) (now (S c .args .weights))) (block (S c)) (length (now (S c .args .value))) (length (now (S c .args .slopes)))
+fitted : (c : tie.Else1) → Fitted (sheet (S c)) (taskWith (now (S c .args .goals)) (now (S c .args .history)) (now (S c .args .weights)) (now (S c .args .tools))) (block (S c)) (length (now (S c .args .value))) (length (now (S c .args .slopes)))
     (length (now (S c .args .record-joints))) (length (now (S c .args .record-links))) (length (now (S c .args .record-poses)))
 fitted c = one-block-fitted (sheet (S c)) _ _ _ _ _ _ _ (sym (c .before .one-block-number .ensures) ∙ c .if1 .left)
 

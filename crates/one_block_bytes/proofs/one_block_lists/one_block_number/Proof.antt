@@ -6,7 +6,7 @@ use Rattle.refusals.specs.Lowest.{firstOf, first-zero, first-some}
 use Rattle.refusals.specs.Refusal.{roomRefusal}
 use Rattle.calls.specs.OneBlock.{recordRefusal}
 use Rattle.lent_bytes.specs.SheetLists.{SheetLists, sheetWith, same-two}
-use Rattle.objective_bytes.specs.ObjectiveCalls.{taskNumber}
+use Rattle.objective_bytes.specs.ObjectiveCalls.{taskNumber, optionalNumber}
 use Rattle.objective_bytes.specs.ObjectiveLaws.{same-four}
 use Rattle.one_block_bytes.specs.OneBlockCalls.{oneBlockNumber}
 use Rattle.one_block_bytes.specs.OneBlockLaws.{Counted, task-counted}
@@ -65,8 +65,8 @@ room-requires-3 c κs = search needs
 record-refusal-requires : tie.Need-record-refusal-requires
 record-refusal-requires c κs = omega (arith, c .before .before .before .entries .ensures, counted (c .before .before .before .before .before .before .before .before .before) .entries)
 
-weights-refusal-requires : tie.Need-weights-refusal-requires
-weights-refusal-requires c κs = search needs
+optional-number-requires : tie.Need-optional-number-requires
+optional-number-requires c κs = search needs
 
 first-of-requires : tie.Need-first-of-requires
 first-of-requires c κs = search needs
@@ -78,7 +78,7 @@ first-of-requires-3 : tie.Need-first-of-requires-3
 first-of-requires-3 c κs = search needs
 
 returns-2 : tie.Need-returns-2
-unfolding oneBlockNumber
+unfolding oneBlockNumber optionalNumber
 returns-2 c =
     let e = c .before .before .before .before .before .before .before .before .before .before .before .before .before .before in
     let n = c .before .before .before .before .before .before .before .before .before .before .before .before .before .block-length .ensures in
@@ -88,7 +88,7 @@ returns-2 c =
     ∙ same-four recordRefusal (c .before .before .before .before .before .before .before .before .entries .ensures) (c .before .before .before .before .before .before .before .number-room .ensures) (c .before .before .before .before .before .before .number-room2 .ensures) (c .before .before .before .before .before .room3 .ensures) in
     c .first-of3 .ensures
     ∙ same-two firstOf first
-    (c .before .first-of2 .ensures ∙ same-two firstOf second (c .before .before .first-of .ensures ∙ same-two firstOf third (c .before .before .before .weights-refusal .ensures)))
+    (c .before .first-of2 .ensures ∙ same-two firstOf second (c .before .before .first-of .ensures ∙ same-two firstOf third (c .before .before .before .optional-number .ensures)))
     ∙ sym (first-zero _ _ (passed e))
 
 pub one-block-number-spec : {M : Type 1} → statement M
@@ -107,7 +107,7 @@ one-block-number-spec =
     number-room-requires-2
     room-requires-3
     record-refusal-requires
-    weights-refusal-requires
+    optional-number-requires
     first-of-requires
     first-of-requires-2
     first-of-requires-3

@@ -5,11 +5,12 @@ use Prim.Native.Nat.{ℕ}
 use native.Mathlib.Omega.{arith}
 use denote.Ref.{now}
 use lib.Ieee.{Float}
+use lib.ListN.{length}
 use Rattle.lists.specs.Splice.{splice}
 use Rattle.gradient.specs.Gradient.{valueAt, gradientOf}
 use Rattle.one_block.specs.Record.{entriesOf, recordJoints, recordLinks, recordPoses}
 use Rattle.lent_bytes.specs.SheetLists.{SheetLists, sheetWith}
-use Rattle.objective_bytes.specs.ObjectiveCalls.{taskWith, valueIn, slopesIn}
+use Rattle.objective_bytes.specs.ObjectiveCalls.{TaskLists, taskWith, valueIn, slopesIn}
 use Rattle.objective_bytes.specs.ObjectiveLaws.{Taken, task-taken, fit-taken, laid-taken, ready-taken}
 use Rattle.one_block_bytes.specs.OneBlockCalls.{entriesIn, recordJointsIn, recordLinksIn, recordPosesIn}
 use Rattle.one_block_bytes.specs.OneBlockLaws.{task-counted}
@@ -26,7 +27,10 @@ sheet s = sheetWith (now (s .args .sizes)) (now (s .args .codes)) (now (s .args 
 abbrev block : tie.Start → List Float
 block s = now (s .args .block)
 
-known : (s : tie.Start) → Taken (sheet s) (taskWith (now (s .args .goals)) (now (s .args .history)) (now (s .args .weights))) (block s)
+abbrev task : tie.Start → TaskLists
+task s = taskWith (now (s .args .goals)) (now (s .args .history)) (now (s .args .weights)) (now (s .args .tools))
+
+known : (s : tie.Start) → Taken (sheet s) (task s) (block s)
 known s = task-taken (sheet s) _ (block s) (s .pre .0)
 
 abbrev S : tie.After-links → tie.Start
@@ -36,6 +40,10 @@ S c = c .before .before .before .before .before .before .before .before .before 
 counted : (c : tie.After-links) → entriesOf (now (c .links .result)) (now (S c .args .codes)) ≡ entriesIn (sheet (S c))
 counted c = ap (λ (ns : List ℕ). entriesOf ns (now (S c .args .codes))) (c .links .ensures)
 
+-- the tools, lent as a list, are of four chains
+four : (c : tie.After-lay-lent-arg) → length (task (S (c .before)) .tools) ≡ 32
+four c = search needs
+
 links-requires : tie.Need-links-requires
 links-requires c κs = search needs
 
@@ -44,19 +52,19 @@ slice-aggregate-lay-lent c = search needs
 
 lay-lent-requires : tie.Need-lay-lent-requires
 lay-lent-requires c κs =
-    let t = known (c .before .before .before .before .before .before .before .before .before .before .before .before .before .before) in
-    (refl, ((omega (arith, t .block, t .few), omega (arith, t .block, t .blocks)), fit-taken _ _ _ t))
+    let t = known (c .before .before .before .before .before .before .before .before .before .before .before .before .before .before .before) in
+    (refl, ((omega (arith, t .block, t .few), omega (arith, t .block, t .blocks)), fit-taken _ _ _ t (four (c .before))))
 
 slice-aggregate-gradient : tie.Need-slice-aggregate-gradient
 slice-aggregate-gradient c = search needs
 
 gradient-requires : tie.Need-gradient-requires
 gradient-requires c κs =
-    let s = c .before .before .before .before .before .before .before .before .before .before .before .before .before .before .before .before .before .before .before .before .before .before in
+    let s = c .before .before .before .before .before .before .before .before .before .before .before .before .before .before .before .before .before .before .before .before .before .before .before in
     let t = known s in
-    let n = counted (c .before .before .before .before .before .before .before .before .before) in
+    let n = counted (c .before .before .before .before .before .before .before .before .before .before) in
     let m = task-counted (sheet s) _ _ _ (s .pre .0 .0) .entries in (
-      (ready-taken (sheet s) _ _ t _ _ (c .before .before .before .before .before .before .before .before .before .links .ensures) (c .before .before .before .before .before .before .before .lay-lent .kept .1 .1 .1 .1 .1 .0), omega (arith, s .pre .1 .0, t .block, t .few)),
+      (ready-taken (sheet s) _ _ t (four (c .before .before .before .before .before .before .before .before .before)) _ _ (c .before .before .before .before .before .before .before .before .before .before .links .ensures) (c .before .before .before .before .before .before .before .lay-lent .kept .1 .1 .1 .1 .1 .1 .0), omega (arith, s .pre .1 .0, t .block, t .few)),
       record { joints-room = omega (arith, n, m, s .pre .1 .0); links-room = omega (arith, n, m, s .pre .1 .0); frames-room = omega (arith, n, s .pre .1 .1) },
     )
 
@@ -78,11 +86,11 @@ same-length-5 c = search needs
 returns : tie.Need-returns
 unfolding valueIn slopesIn recordJointsIn recordLinksIn recordPosesIn
 returns c =
-    let s = c .before .before .before .before .before .before .before .before .before .before .before .before .before .before .before .before .before .before .before .before .before .before .before .before .before .before .before .before .before .before .before .before .before in
+    let s = c .before .before .before .before .before .before .before .before .before .before .before .before .before .before .before .before .before .before .before .before .before .before .before .before .before .before .before .before .before .before .before .before .before .before in
     let a = s .args in
     let cs = now (a .codes) in
-    let l = c .before .before .before .before .before .before .before .before .before .before .before .before .before .before .before .before .before .before .before .before .links .ensures in
-    let g = laid-taken (sheet s) _ _ (known s) _ _ _ l refl (c .before .before .before .before .before .before .before .before .before .before .before .before .before .before .before .before .before .before .lay-lent .ensures) in
+    let l = c .before .before .before .before .before .before .before .before .before .before .before .before .before .before .before .before .before .before .before .before .before .links .ensures in
+    let g = laid-taken (sheet s) _ _ (known s) (four (c .before .before .before .before .before .before .before .before .before .before .before .before .before .before .before .before .before .before .before .before)) _ _ _ l refl (c .before .before .before .before .before .before .before .before .before .before .before .before .before .before .before .before .before .before .lay-lent .ensures) in
     let e = c .before .before .before .before .before .before .before .before .before .before .gradient .ensures in (
       e .0 ∙ ap (λ g′. valueAt g′ (now (a .floats)) (block s)) g,
       (

@@ -46,7 +46,7 @@ slice-aggregate-put-slopes c = search needs
 put-slopes-requires : tie.Need-put-slopes-requires
 put-slopes-requires c κs =
     let t = c .before .before .before .before .before .before .before .before .before .before .before .before .before .before .before .before .before .before .before .before .before .before .before .before .before .before .before .before .before .before .pre .0 in
-    let g = c .before .before .before .before .before .before .before .before .before .before .one-block-on .kept .1 .1 .1 .1 .1 .1 .1 in
+    let g = c .before .before .before .before .before .before .before .before .before .before .one-block-on .kept .1 .1 .1 .1 .1 .1 .1 .1 in
     (omega (arith, t .few, g .0, g .1 .0), t .value-room, omega (arith, t .slopes-room, g .0))
 
 entries-requires : tie.Need-entries-requires
@@ -62,7 +62,7 @@ put-record-requires : tie.Need-put-record-requires
 put-record-requires c κs =
     let p = c .before .before .before .before .before .before .before .before .before .before .before .before .before .before .before .before .before .before .before .before .before .before .before .before .before .before .before .before .before .before .before .before .before .before .before .before .before .before .before .before .before .before .pre in
     let t = p .0 in
-    let g = c .before .before .before .before .before .before .before .before .before .before .before .before .before .before .before .before .before .before .before .before .before .before .one-block-on .kept .1 .1 .1 .1 .1 .1 .1 .1 .1 in
+    let g = c .before .before .before .before .before .before .before .before .before .before .before .before .before .before .before .before .before .before .before .before .before .before .one-block-on .kept .1 .1 .1 .1 .1 .1 .1 .1 .1 .1 in
     let m = c .before .before .before .before .before .before .entries .ensures in (
       (omega (arith, m, t .entries, g .0), omega (arith, m, t .entries, g .1 .0), omega (arith, m, p .1, g .1 .1 .0)),
       (omega (arith, m, t .joints-room), omega (arith, m, t .links-room), omega (arith, m, t .poses-room)),

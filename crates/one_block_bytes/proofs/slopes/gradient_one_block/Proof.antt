@@ -6,6 +6,7 @@ use Rattle.lists.specs.Splice.{splice}
 use Rattle.calls.specs.Arms.{ifTaken}
 use Rattle.lent_bytes.specs.Lent.{roomIn, numberRoomIn, bytesOf, bytesOfNumbers}
 use Rattle.lent_bytes.specs.SheetLists.{SheetLists, sheet-held, same-two, same-three}
+use Rattle.objective_bytes.specs.ObjectiveLaws.{same-four}
 use Rattle.objective_bytes.specs.ObjectiveCalls.{taskWith, objectiveValue, gradientSlopes}
 use Rattle.one_block_bytes.specs.OneBlockCalls.{oneBlockNumber, recordJointsIn, recordLinksIn, recordPosesIn}
 use borrow.Author.Needs.{needs}
@@ -15,10 +16,10 @@ use Rattle.one_block_bytes.proofs.slopes.gradient_one_block.Tie as tie
 returns : tie.Need-returns
 returns c =
     let w = c .before .before .before .before .before .before .before .before .before .before .before .gradient-one-block in
-    let a = c .before .before .before .before .before .before .before .before .before .before .before .before .before .before .before .before .before .before .before .before .before .before .before .before .before .before .before .before .before .before .before .before .before .before .before .before .before .before .before .before .before .before .before .before .before .before .before .before .before .args in
-    let z = sheet-held (c .before .before .before .before .before .before .before .before .before .before .before .before .before .before .before .before .before .before .before .before .before .before .before .before .before .before .before .before .before .before .before .decode .ensures) in
-    let d = c .before .before .before .before .before .before .before .before .before .before .before .before .before .before .before .before .before .before .before .before .before .before .before .before .before .before .before .decode2 .ensures in
-    let t = same-three taskWith (d .of-goals .held) (d .of-history .held) (c .before .before .before .before .before .before .before .before .before .before .before .before .before .before .before .before .before .before .before .before .before .before .before .before .before .decode3 .ensures .held) in
+    let a = c .before .before .before .before .before .before .before .before .before .before .before .before .before .before .before .before .before .before .before .before .before .before .before .before .before .before .before .before .before .before .before .before .before .before .before .before .before .before .before .before .before .before .before .before .before .before .before .before .before .before .before .before .before .before .before .args in
+    let z = sheet-held (c .before .before .before .before .before .before .before .before .before .before .before .before .before .before .before .before .before .before .before .before .before .before .before .before .before .before .before .before .before .before .before .before .before .decode .ensures) in
+    let d = c .before .before .before .before .before .before .before .before .before .before .before .before .before .before .before .before .before .before .before .before .before .before .before .before .before .before .before .before .before .decode2 .ensures in
+    let t = same-four taskWith (d .of-goals .held) (d .of-history .held) (c .before .before .before .before .before .before .before .before .before .before .before .before .before .before .before .before .before .before .before .before .before .before .before .before .before .before .before .decode3 .ensures .held) (c .before .before .before .before .before .before .before .before .before .before .before .before .before .before .before .before .before .before .before .before .before .before .before .before .before .before .decode4 .ensures) in
     let x = d .of-joints .held in
     let r = w .ensures .1 .1 .1 in (
       w .ensures .0
@@ -40,7 +41,7 @@ returns c =
 pub gradient-one-block-spec : {M : Type 1} → statement M
 gradient-one-block-spec =
     tie.close
-    (tie.spec (λ c κs. search needs) (λ c κs. search needs) (λ c κs. search needs) (λ c. search needs) (λ c. search needs) (λ c. search needs)
+    (tie.spec (λ c κs. search needs) (λ c κs. search needs) (λ c κs. search needs) (λ c κs. search needs) (λ c. search needs) (λ c. search needs) (λ c. search needs)
     (λ c. search needs) (λ c. search needs) (λ c. search needs) (λ c. search needs) (λ c. search needs) (λ c. search needs)
     (λ c. search needs) (λ c. search needs) (λ c. search needs) (λ c. search needs) (λ c. search needs) (λ c. search needs)
     (λ c. search needs) (λ c κs. search needs) (λ c. search needs) (λ c. search needs) (λ c. search needs) (λ c. search needs)

@@ -37,7 +37,7 @@ returns-3 c =
     rw (← n .number-at .ensures .0, ne-eqb _ 0 (c .before .before .before .if1 .left), ne-eqb _ 1 (c .before .before .if2 .left), lt-ltb _ 6 (c .before .if3 .taken)) (c .one-output .ensures)
 
 two-outputs-requires : tie.Need-two-outputs-requires
-two-outputs-requires c κs = search needs
+two-outputs-requires c κs = (search needs, (c .before .if3 .left, c .if4 .taken))
 
 returns-4 : tie.Need-returns-4
 unfolding recordAgrees callAgrees
@@ -81,14 +81,23 @@ returns-8 c =
     let n = c .before .before .before .before .before .before .before .before .before in
     rw (← n .number-at .ensures .0, ne-eqb _ 0 (c .before .before .before .before .before .before .before .before .if1 .left), ne-eqb _ 1 (c .before .before .before .before .before .before .before .if2 .left), le-ltb _ 6 (c .before .before .before .before .before .before .if3 .left), le-ltb _ 8 (c .before .before .before .before .before .if4 .left), le-ltb _ 10 (c .before .before .before .before .if5 .left), ne-eqb _ 10 (c .before .before .before .if6 .left), ne-eqb _ 41 (c .before .before .if7 .left), eq-eqb _ 42 (c .before .if8 .taken)) (c .set-weights .ensures)
 
-leaf-requires : tie.Need-leaf-requires
-leaf-requires c κs = search needs
+set-tool-requires : tie.Need-set-tool-requires
+set-tool-requires c κs = search needs
 
 returns-9 : tie.Need-returns-9
 unfolding recordAgrees callAgrees
 returns-9 c =
-    let n = c .before .before .before .before .before .before .before .before .before in
-    rw (← n .number-at .ensures .0, ne-eqb _ 0 (c .before .before .before .before .before .before .before .before .if1 .left), ne-eqb _ 1 (c .before .before .before .before .before .before .before .if2 .left), le-ltb _ 6 (c .before .before .before .before .before .before .if3 .left), le-ltb _ 8 (c .before .before .before .before .before .if4 .left), le-ltb _ 10 (c .before .before .before .before .if5 .left), ne-eqb _ 10 (c .before .before .before .if6 .left), ne-eqb _ 41 (c .before .before .if7 .left), ne-eqb _ 42 (c .before .if8 .left)) (c .leaf .ensures)
+    let n = c .before .before .before .before .before .before .before .before .before .before in
+    rw (← n .number-at .ensures .0, ne-eqb _ 0 (c .before .before .before .before .before .before .before .before .before .if1 .left), ne-eqb _ 1 (c .before .before .before .before .before .before .before .before .if2 .left), le-ltb _ 6 (c .before .before .before .before .before .before .before .if3 .left), le-ltb _ 8 (c .before .before .before .before .before .before .if4 .left), le-ltb _ 10 (c .before .before .before .before .before .if5 .left), ne-eqb _ 10 (c .before .before .before .before .if6 .left), ne-eqb _ 41 (c .before .before .before .if7 .left), ne-eqb _ 42 (c .before .before .if8 .left), eq-eqb _ 43 (c .before .if9 .taken)) (c .set-tool .ensures)
+
+leaf-requires : tie.Need-leaf-requires
+leaf-requires c κs = search needs
+
+returns-10 : tie.Need-returns-10
+unfolding recordAgrees callAgrees
+returns-10 c =
+    let n = c .before .before .before .before .before .before .before .before .before .before in
+    rw (← n .number-at .ensures .0, ne-eqb _ 0 (c .before .before .before .before .before .before .before .before .before .if1 .left), ne-eqb _ 1 (c .before .before .before .before .before .before .before .before .if2 .left), le-ltb _ 6 (c .before .before .before .before .before .before .before .if3 .left), le-ltb _ 8 (c .before .before .before .before .before .before .if4 .left), le-ltb _ 10 (c .before .before .before .before .before .if5 .left), ne-eqb _ 10 (c .before .before .before .before .if6 .left), ne-eqb _ 41 (c .before .before .before .if7 .left), ne-eqb _ 42 (c .before .before .if8 .left), ne-eqb _ 43 (c .before .if9 .left)) (c .leaf .ensures)
 
 pub agrees-spec : {M : Type 1} → statement M
 agrees-spec =
@@ -111,5 +120,7 @@ agrees-spec =
     returns-7
     set-weights-requires
     returns-8
+    set-tool-requires
+    returns-9
     leaf-requires
-    returns-9)
+    returns-10)

@@ -1,7 +1,7 @@
 -- `record_damage` meets its contract: each return follows the tests before it.
 use borrow.Author.Tests.{lt-ltb, le-ltb}
 use Rattle.stored_answers.specs.Records.{damageAt}
-use Rattle.replay.specs.Table.{lastCall}
+use Rattle.replay_calls.specs.Table.{lastCall}
 use borrow.Author.Needs.{needs}
 use Rattle.replay.proofs.damage.record_damage.Statement.{statement}
 use Rattle.replay.proofs.damage.record_damage.Tie as tie

@@ -6,7 +6,7 @@ use Prim.Native.Nat.{ℕ, _*_}
 use native.Mathlib.Omega.{arith}
 use lib.ListN.{length}
 use Rattle.lent_bytes.specs.Lent.{bytesOf, bytes-length, front, front-of}
-use Rattle.replay.specs.Table.{answeredList}
+use Rattle.replay_calls.specs.Table.{answeredList}
 use borrow.Author.Needs.{needs}
 use Rattle.replay.proofs.leaf_cases.floats.Statement.{statement}
 use Rattle.replay.proofs.leaf_cases.floats.Tie as tie

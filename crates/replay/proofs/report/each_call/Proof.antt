@@ -5,7 +5,7 @@ use native.Mathlib.Omega.{arith}
 use borrow.Author.Needs.{needs}
 use Rattle.lent_bytes.specs.SheetLists.{same-two}
 use Rattle.stored_answers.specs.Records.{sumOf, sum-more}
-use Rattle.replay.specs.Table.{calls}
+use Rattle.replay_calls.specs.Table.{calls}
 use Rattle.replay.specs.Tally.{casesOf, differOf}
 use Rattle.replay.proofs.report.each_call.Statement.{statement}
 use Rattle.replay.proofs.report.each_call.Tie as tie

@@ -4,7 +4,7 @@ use Prim.Native.Nat.{_+_, _*_, _-_, _≤_}
 use native.Mathlib.Omega.{arith}
 use Rattle.lent_bytes.specs.SheetLists.{same-two}
 use Rattle.stored_answers.specs.Records.{recordBy, isCase, isDifferent, sumOf, casesBy, differBy, record-next, sum-more}
-use Rattle.replay.specs.Table.{listsOf}
+use Rattle.replay_calls.specs.Table.{listsOf}
 use Rattle.replay.specs.Cases.{recordAgrees}
 use Rattle.replay.specs.Tally.{endOf, recordAt, agreesAt}
 use Rattle.replay.proofs.tally.tally.Statement.{statement}
@@ -12,7 +12,7 @@ use Rattle.replay.proofs.tally.tally.Tie as tie
 
 abbrev Inv-loop : tie.InvT-loop
 Inv-loop s call n t₀ at₀ i₀ t at i =
-    (i ≤ n) × (at ≡ recordAt s i) × (at ≤ 2 + 851985 * i)
+    (i ≤ n) × (at ≡ recordAt s i) × (at ≤ 2 + 1114133 * i)
     × (t .cases ≡ sumOf (λ k. isCase s call (recordAt s k)) i) × (t .differ ≡ sumOf (λ k. isDifferent (agreesAt s k) s call (recordAt s k)) i) × (t .cases ≤ i) × (t .differ ≤ i)
 
 abbrev μ-loop : tie.MeasureT-loop

@@ -42,7 +42,7 @@ returns c =
     let x = m .pre .0 .1 in
     let n = p .0 ∙ same-two (poseNumberOf st) x (ap length (m .pre .1)) in
     agrees-on _ _ _ outputs [] (agrees-begin _ _ outputs (c .before .before .number .ensures) n)
-    (ap bytesOf (p .1 ∙ left-same n (m .pre .1) (ap (λ (y : List Float). endsOf (linksUsed (st .arms .sizes)) (posesOf st y)) x)))
+    (ap bytesOf (p .1 ∙ left-same n (m .pre .1) (ap (λ (y : List Float). endsOf (linksUsed (st .arms .sizes)) (st .arms .tools) (posesOf st y)) x)))
     (c .floats .ensures)
 
 pub pose-spec : {M : Type 1} → statement M

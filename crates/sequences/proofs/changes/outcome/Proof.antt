@@ -12,6 +12,7 @@ use Rattle.state_calls.proofs.state.empty.Reads as empty-reads
 use Rattle.sequences.proofs.changes.load_stored.Reads as load-stored-reads
 use Rattle.sequences.proofs.changes.reset.Reads as reset-reads
 use Rattle.sequences.proofs.changes.set_goals.Reads as set-goals-reads
+use Rattle.sequences.proofs.changes.set_tool.Reads as set-tool-reads
 use Rattle.sequences.proofs.changes.set_weights.Reads as set-weights-reads
 use Rattle.sequences.proofs.changes.update.Reads as update-reads
 
@@ -57,11 +58,18 @@ returns-6 : tie.Need-returns-6
 unfolding outcomeAt
 returns-6 c = rw (c .before .match .keys6) (c .set-weights .ensures)
 
+set-tool-requires : tie.Need-set-tool-requires
+set-tool-requires c κs = search needs
+
 returns-7 : tie.Need-returns-7
 unfolding outcomeAt
-returns-7 c =
+returns-7 c = rw (c .before .match .keys7) (c .set-tool .ensures)
+
+returns-8 : tie.Need-returns-8
+unfolding outcomeAt
+returns-8 c =
     let r = c .match .rest in
-    rw (ne-eqb _ 0 (r .0 .0 .0 .0 .0 .1), ne-eqb _ 1 (r .0 .0 .0 .0 .1), ne-eqb _ 2 (r .0 .0 .0 .1), ne-eqb _ 3 (r .0 .0 .1), ne-eqb _ 4 (r .0 .1), ne-eqb _ 13 (r .1))
+    rw (ne-eqb _ 0 (r .0 .0 .0 .0 .0 .0 .1), ne-eqb _ 1 (r .0 .0 .0 .0 .0 .1), ne-eqb _ 2 (r .0 .0 .0 .0 .1), ne-eqb _ 3 (r .0 .0 .0 .1), ne-eqb _ 4 (r .0 .0 .1), ne-eqb _ 13 (r .0 .1), ne-eqb _ 14 (r .1))
 
 pub outcome-spec : {M : Type 1} → statement M
 outcome-spec =
@@ -79,4 +87,6 @@ outcome-spec =
     returns-5
     set-weights-requires
     returns-6
-    returns-7)
+    set-tool-requires
+    returns-7
+    returns-8)

@@ -61,9 +61,13 @@ returns-13 c = (rw (c .match .keys13), omega arith)
 
 returns-14 : tie.Need-returns-14
 unfolding listsOf
-returns-14 c =
+returns-14 c = (rw (c .match .keys14), omega arith)
+
+returns-15 : tie.Need-returns-15
+unfolding listsOf
+returns-15 c =
     let r = c .match .rest in
-    (rw (ne-eqb _ 0 (r .0 .0 .0 .0 .0 .0 .0 .0 .0 .0 .0 .0 .1), ne-eqb _ 1 (r .0 .0 .0 .0 .0 .0 .0 .0 .0 .0 .0 .1), ne-eqb _ 2 (r .0 .0 .0 .0 .0 .0 .0 .0 .0 .0 .1), ne-eqb _ 3 (r .0 .0 .0 .0 .0 .0 .0 .0 .0 .1), ne-eqb _ 4 (r .0 .0 .0 .0 .0 .0 .0 .0 .1), ne-eqb _ 5 (r .0 .0 .0 .0 .0 .0 .0 .1), ne-eqb _ 6 (r .0 .0 .0 .0 .0 .0 .1), ne-eqb _ 7 (r .0 .0 .0 .0 .0 .1), ne-eqb _ 8 (r .0 .0 .0 .0 .1), ne-eqb _ 9 (r .0 .0 .0 .1), ne-eqb _ 10 (r .0 .0 .1), ne-eqb _ 11 (r .0 .1), ne-eqb _ 12 (r .1)), omega arith)
+    (rw (ne-eqb _ 0 (r .0 .0 .0 .0 .0 .0 .0 .0 .0 .0 .0 .0 .0 .1), ne-eqb _ 1 (r .0 .0 .0 .0 .0 .0 .0 .0 .0 .0 .0 .0 .1), ne-eqb _ 2 (r .0 .0 .0 .0 .0 .0 .0 .0 .0 .0 .0 .1), ne-eqb _ 3 (r .0 .0 .0 .0 .0 .0 .0 .0 .0 .0 .1), ne-eqb _ 4 (r .0 .0 .0 .0 .0 .0 .0 .0 .0 .1), ne-eqb _ 5 (r .0 .0 .0 .0 .0 .0 .0 .0 .1), ne-eqb _ 6 (r .0 .0 .0 .0 .0 .0 .0 .1), ne-eqb _ 7 (r .0 .0 .0 .0 .0 .0 .1), ne-eqb _ 8 (r .0 .0 .0 .0 .0 .1), ne-eqb _ 9 (r .0 .0 .0 .0 .1), ne-eqb _ 10 (r .0 .0 .0 .1), ne-eqb _ 11 (r .0 .0 .1), ne-eqb _ 12 (r .0 .1), ne-eqb _ 13 (r .1)), omega arith)
 
 pub lists-spec : {M : Type 1} → statement M
 lists-spec =
@@ -82,4 +86,5 @@ lists-spec =
     returns-11
     returns-12
     returns-13
-    returns-14)
+    returns-14
+    returns-15)

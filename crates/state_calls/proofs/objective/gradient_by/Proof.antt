@@ -1,5 +1,5 @@
 -- `gradient_by` meets its contract: the list is laid of the state's arrays.
-use mathlib.Core.Path.{refl, _∙_}
+use mathlib.Core.Path.{refl, sym, _∙_}
 use denote.Ref.{now}
 use Rattle.state_calls.specs.StoredTask.{slopesStored}
 use Rattle.state_calls.specs.Objective.{Lists, value-laid, slopes-laid}
@@ -23,15 +23,15 @@ slice-aggregate-gradient-on-2 : tie.Need-slice-aggregate-gradient-on-2
 slice-aggregate-gradient-on-2 c = search needs
 
 slice-aggregate-gradient-on-3 : tie.Need-slice-aggregate-gradient-on-3
-slice-aggregate-gradient-on-3 c = search needs
+slice-aggregate-gradient-on-3 c = sym (lists (c .before .before .before .before .before .before .before .before .before .before .before .before .before .before .before .before .before .before .before) .floats)
 
 slice-aggregate-gradient-on-4 : tie.Need-slice-aggregate-gradient-on-4
 slice-aggregate-gradient-on-4 c = search needs
 
 gradient-on-requires : tie.Need-gradient-on-requires
 gradient-on-requires c κs =
-    let l = lists (c .before .before .before .before .before .before .before .before .before .before .before .before .before .before .before .before .before .before .before .before) in
-    record { sizes = l .sizes; codes = l .codes; floats = l .floats; whole = c .before .before .before .before .before .before .before .lay-task .kept .1 .1 .1 .0 }
+    let l = lists (c .before .before .before .before .before .before .before .before .before .before .before .before .before .before .before .before .before .before .before .before .before .before) in
+    record { sizes = l .sizes; codes = l .codes; floats = l .floats; whole = c .before .before .before .before .before .before .before .lay-task .kept .1 .1 .1 .1 .0 }
 
 same-length : tie.Need-same-length
 same-length c = search needs
@@ -43,7 +43,7 @@ returns : tie.Need-returns
 unfolding slopesStored
 returns c =
     let m = c .before .before .before .before .gradient-on in
-    let s = c .before .before .before .before .before .before .before .before .before .before .before .before .before .before .before .before .before .before .before .before .before .before .before .before .before in
+    let s = c .before .before .before .before .before .before .before .before .before .before .before .before .before .before .before .before .before .before .before .before .before .before .before .before .before .before .before in
     let a = s .args in
     let x = now (a .joints) in
     let e = c .before .before .before .before .before .before .before .before .before .before .before .before .lay-task .ensures in (

@@ -21,18 +21,18 @@ slice-aggregate-gradient-one-block-on : tie.Need-slice-aggregate-gradient-one-bl
 slice-aggregate-gradient-one-block-on c = search needs
 
 slice-aggregate-gradient-one-block-on-2 : tie.Need-slice-aggregate-gradient-one-block-on-2
-slice-aggregate-gradient-one-block-on-2 c = search needs
+slice-aggregate-gradient-one-block-on-2 c = sym (lists (c .before .before .before .before .before .before .before .before .before .before .before .before .before .before .before .before .before .before .before .before) .codes)
 
 slice-aggregate-gradient-one-block-on-3 : tie.Need-slice-aggregate-gradient-one-block-on-3
-slice-aggregate-gradient-one-block-on-3 c = sym (lists (c .before .before .before .before .before .before .before .before .before .before .before .before .before .before .before .before .before .before .before) .floats)
+slice-aggregate-gradient-one-block-on-3 c = sym (lists (c .before .before .before .before .before .before .before .before .before .before .before .before .before .before .before .before .before .before .before .before .before) .floats)
 
 slice-aggregate-gradient-one-block-on-4 : tie.Need-slice-aggregate-gradient-one-block-on-4
 slice-aggregate-gradient-one-block-on-4 c = search needs
 
 gradient-one-block-on-requires : tie.Need-gradient-one-block-on-requires
 gradient-one-block-on-requires c κs =
-    let l = lists (c .before .before .before .before .before .before .before .before .before .before .before .before .before .before .before .before .before .before .before .before .before .before .before .before .before) in
-    record { sizes = l .sizes; codes = l .codes; floats = l .floats; whole = c .before .before .before .before .before .before .before .before .before .before .lay-task .kept .1 .1 .1 .0 }
+    let l = lists (c .before .before .before .before .before .before .before .before .before .before .before .before .before .before .before .before .before .before .before .before .before .before .before .before .before .before .before) in
+    record { sizes = l .sizes; codes = l .codes; floats = l .floats; whole = c .before .before .before .before .before .before .before .before .before .before .lay-task .kept .1 .1 .1 .1 .0 }
 
 same-length : tie.Need-same-length
 same-length c = search needs
@@ -53,7 +53,7 @@ returns : tie.Need-returns
 unfolding oneBlockStored
 returns c =
     let m = c .before .before .before .before .before .before .before .before .before .before .gradient-one-block-on in
-    let s = c .before .before .before .before .before .before .before .before .before .before .before .before .before .before .before .before .before .before .before .before .before .before .before .before .before .before .before .before .before .before .before .before .before .before .before .before in
+    let s = c .before .before .before .before .before .before .before .before .before .before .before .before .before .before .before .before .before .before .before .before .before .before .before .before .before .before .before .before .before .before .before .before .before .before .before .before .before .before in
     let a = s .args in
     let x = now (a .block) in
     let e = c .before .before .before .before .before .before .before .before .before .before .before .before .before .before .before .before .before .before .before .before .before .lay-task .ensures in (

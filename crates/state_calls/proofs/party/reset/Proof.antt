@@ -1,9 +1,21 @@
 -- `reset` meets its contract: a refusal keeps the state; else the end poses and the history are those of the block.
-use mathlib.Core.Path.{_≡_, sym, _∙_}
+use mathlib.Core.Path.{_≡_, sym, ap, _∙_}
+use mathlib.Core.Bool.{true}
+use mathlib.Core.List.{List}
+use denote.Ref.{now}
+use lib.Ieee.{Float}
+use lib.ListN.{length}
 use borrow.Author.Tests.{ne-eqb}
+use Rattle.lists.specs.Splice.{splice}
+use Rattle.spacetime.specs.Frames.{endsOf}
 use Rattle.calls.specs.Arms.{taken}
+use Rattle.groove.specs.declared.vars.History.{History}
+use Rattle.groove.specs.Vars.{resetOf}
+use Rattle.state_calls.specs.declared.state.Outcome.{Outcome}
 use Rattle.state_calls.specs.Load.{outcomeOf}
+use Rattle.state_calls.specs.State.{zeros, linksUsed}
 use Rattle.state_calls.specs.StoredSheet.{blockStored, pose-kept}
+use Rattle.state_calls.specs.Arms.{posesOf}
 use Rattle.state_calls.specs.Party.{withStart, resetStateOf, block-fits}
 use borrow.Author.Needs.{needs}
 use Rattle.state_calls.proofs.party.reset.Statement.{statement}
@@ -20,6 +32,9 @@ slice-aggregate-pose-on-3 c = search needs
 
 slice-aggregate-pose-on-4 : tie.Need-slice-aggregate-pose-on-4
 slice-aggregate-pose-on-4 c = search needs
+
+slice-aggregate-pose-on-5 : tie.Need-slice-aggregate-pose-on-5
+slice-aggregate-pose-on-5 c = search needs
 
 pose-on-requires : tie.Need-pose-on-requires
 pose-on-requires c κs = search needs
@@ -46,7 +61,20 @@ returns-2 c =
     let left = c .before .before .before .before .if1 .left in
     let e : blockStored _ _ _ ≡ 0 = sym (n .ensures .0 ∙ pose-kept _ _ _) ∙ left in
     let p = n .ensures .1 ∙ taken (n .result) _ _ left in
-    rw e (cc)
+    let a = c .before .before .before .before .before .before .before .before .before .before .before .before .before .before .before .before .before .before .before .args in
+    let s = a .state in
+    let x = now (a .joints) in
+    let begun : History → List Float → Outcome = λ history ends. record {
+      number = 0;
+      state = record {
+        arms = s .arms;
+        weights = s .weights;
+        party = record { «has_goals» = s .party .«has_goals»; goals = s .party .goals; started = true; history = history; «start_poses» = ends };
+      };
+    } in
+    let h = c .reset .ensures ∙ ap (λ (l : List Float). resetOf l (length x)) (c .before .padded16 .ensures) in
+    let ends = splice (zeros 28) 0 (endsOf (linksUsed (s .arms .sizes)) (s .arms .tools) (posesOf s x)) in
+    rw e (ap (begun (c .reset .result)) p ∙ ap (λ (history : History). begun history ends) h)
 
 pub reset-spec : {M : Type 1} → statement M
 reset-spec =
@@ -56,6 +84,7 @@ reset-spec =
     slice-aggregate-pose-on-2
     slice-aggregate-pose-on-3
     slice-aggregate-pose-on-4
+    slice-aggregate-pose-on-5
     pose-on-requires
     returns
     padded16-requires

@@ -22,7 +22,7 @@ returns c =
     let a = c .before .before .before .before .before .before .before .before .before .before .before .before .before .before .before .before .before .args in
     let p = a .party in
     c .before .before .lay-stored .ensures
-    ∙ ap (λ (ws : List Float). laid (apart ws (now (a .limits)) (p .goals) (p .history .xopt) (p .history .«prev_state») (p .history .«prev_state2»)) (now (a .task))) (c .before .before .before .before .before .before .before .before .before .in-force .ensures)
+    ∙ ap (λ (ws : List Float). laid (apart ws (now (a .limits)) (p .goals) (p .history .xopt) (p .history .«prev_state») (p .history .«prev_state2») (now (a .tools))) (now (a .task))) (c .before .before .before .before .before .before .before .before .before .in-force .ensures)
 
 pub lay-task-spec : {M : Type 1} → statement M
 lay-task-spec =

@@ -16,6 +16,9 @@ put-requires-3 c κs = search needs
 lay-blocks-requires : tie.Need-lay-blocks-requires
 lay-blocks-requires c κs = search needs
 
+put-requires-4 : tie.Need-put-requires-4
+put-requires-4 c κs = search needs
+
 same-length : tie.Need-same-length
 same-length c = search needs
 
@@ -26,4 +29,4 @@ returns c = cc
 pub lay-spec : {M : Type 1} → statement M
 lay-spec =
     tie.close
-    (tie.spec put-requires put-requires-2 put-requires-3 lay-blocks-requires same-length returns)
+    (tie.spec put-requires put-requires-2 put-requires-3 lay-blocks-requires put-requires-4 same-length returns)
