@@ -1,5 +1,5 @@
-/* The rig's loop on the proved library: reserve the lists, load the arm, set weights and goal, reset, then round after round a gradient, a
- * small step down and an update.
+/* The rig's loop on the proved library: reserve the lists, load the arm, set weights, the sonde on the flange and its goal, reset, then round
+ * after round a gradient, a small step down and an update.
  *
  *   cc -std=c99 -Iinclude examples/controller.c target/staticlib/libexports.a -o controller
  *
@@ -32,6 +32,8 @@ enum {
     LIST(double, goals, CHAINS * RELAXED_IK_GOAL_FLOATS)    \
     LIST(double, weights, RELAXED_IK_WEIGHT_FLOATS)         \
     LIST(double, new_weights, RELAXED_IK_WEIGHT_FLOATS)     \
+    LIST(double, tool, RELAXED_IK_TOOL_FLOATS)              \
+    LIST(double, new_tool, RELAXED_IK_TOOL_FLOATS)          \
     LIST(double, joints, JOINTS)
 #define WRITTEN_LISTS(LIST)                                 \
     LIST(double, history, JOINTS * RELAXED_IK_HISTORY_BLOCKS) \
@@ -89,7 +91,11 @@ static int reserved;
 #define WRITE(name) (uint8_t *)name.at, sizeof name.at
 #define WRITE_PART(name) name.at, name.length
 #define SHEET READ(sizes), READ(codes), READ(floats), READ(limits)
+/* The tools of chains 0 to 3, of which this arm has the first. None is a list of no byte, whose pointer is not null all the same. */
+#define TOOLS (const uint8_t *)tool.at, tool_bytes, NO_TOOL, NO_TOOL, NO_TOOL
+#define NO_TOOL (const uint8_t *)tool.at, 0
 
+static size_t tool_bytes; /* 0 until a tool is set */
 static unsigned long calls;
 
 #ifdef GUARDED
@@ -155,6 +161,7 @@ static const char *words(uint32_t answer) {
     case RELAXED_IK_WRONG_GOALS: return "wrong goals";
     case RELAXED_IK_TOO_SHORT: return "a list that is too short";
     case RELAXED_IK_WRONG_WEIGHTS: return "wrong weights";
+    case RELAXED_IK_WRONG_TOOL: return "a wrong tool, or one for no chain";
     default: return "a number that no call has";
     }
 }
@@ -185,6 +192,8 @@ static const double tolerances[6] = {0.0, 0.0, 0.05, 0.1, 0.1, 3.2};
 /* In granite the azimuth, which is of the rotation, counts for more than the depth: position, rotation, limits, velocity, acceleration, jerk,
  * manipulability, pairs. */
 static const double granite[RELAXED_IK_WEIGHT_FLOATS] = {20.0, 60.0, 0.1, 0.7, 0.5, 0.3, 1.0, 0.01};
+/* The sonde on the flange: its tip is a little aside, 0.5 on, and turned. */
+static const double sonde[RELAXED_IK_TOOL_FLOATS] = {0.04, 0.0, 0.5, 0.96, 0.0, 0.28, 0.0};
 
 static void fill(void) {
     int i;
@@ -267,8 +276,35 @@ static int weigh(void) {
     return 1;
 }
 
+/* As with weights: looked at first, and only then in force. */
+static int set_tool(const char *what, uint32_t chain, const double *list) {
+    memcpy(new_tool.at, list, sizeof new_tool.at);
+    if (!taken(what, ASK(relaxed_ik_set_tool(SHEET, READ(new_tool), chain)))) return 0;
+    memcpy(tool.at, new_tool.at, sizeof tool.at);
+    tool_bytes = sizeof tool.at;
+    return 1;
+}
+
+static void print_tool(const char *when) {
+    const double *t = tool.at;
+    printf("%s: tip at %g %g %g from the flange\n", when, t[0], t[1], t[2]);
+}
+
+/* Sets the sonde. One that somebody mistyped, and one for a chain that the arm does not have, are told by their number, and it stays. */
+static int equip(void) {
+    double mistyped[RELAXED_IK_TOOL_FLOATS];
+    if (!set_tool("set tool", 0, sonde)) return 0;
+    print_tool("tool set");
+    memcpy(mistyped, sonde, sizeof mistyped);
+    mistyped[2] = 50.0;
+    if (set_tool("a sonde of 50 m", 0, mistyped) || set_tool("a sonde on chain 1", 1, sonde)) return 0;
+    if (memcmp(tool.at, sonde, sizeof sonde) != 0) return 0;
+    print_tool("it stays");
+    return 1;
+}
+
 static int pose(void) {
-    return taken("pose", ASK(relaxed_ik_pose(SHEET, READ(joints), WRITE(ends))));
+    return taken("pose", ASK(relaxed_ik_pose(SHEET, TOOLS, READ(joints), WRITE(ends))));
 }
 
 static void print_end(const char *when) {
@@ -292,13 +328,14 @@ static int rounds(void) {
     uint16_t link, joint;
     int round, i;
     for (round = 0; round < ROUNDS; round++) {
-        if (!taken("gradient", ASK(relaxed_ik_gradient_one_block(SHEET, READ(goals), READ(history), READ(weights), READ(joints), WRITE(value),
-                                   WRITE(slopes), WRITE_PART(record_joints), WRITE_PART(record_links), WRITE_PART(record_poses)))))
+        if (!taken("gradient", ASK(relaxed_ik_gradient_one_block(SHEET, READ(goals), READ(history), READ(weights), TOOLS, READ(joints),
+                                   WRITE(value), WRITE(slopes), WRITE_PART(record_joints), WRITE_PART(record_links),
+                                   WRITE_PART(record_poses)))))
             return 0;
         if (round % 25 == 0 || round == ROUNDS - 1) {
-            /* The first walk's last pose is the end pose: no further call is needed for it. */
+            /* The record stops at the last link: the first walk's last pose is the flange's, and no further call is needed for it. */
             copy_out(e, record_poses, LINKS - 1, sizeof e);
-            printf("round %3d: objective %10.5f, end at %.4f %.4f %.4f\n", round, value.at[0], e[0], e[1], e[2]);
+            printf("round %3d: objective %10.5f, flange at %.4f %.4f %.4f\n", round, value.at[0], e[0], e[1], e[2]);
         }
         if (round > 0 && value.at[0] > last) rate *= 0.7;
         last = value.at[0];
@@ -326,8 +363,9 @@ int main(void) {
     if (!taken("load", ASK(relaxed_ik_load(SHEET)))) return 1;
     printf("loaded: %d chain, %d links, %d joints\n", CHAINS, LINKS, JOINTS);
     if (!weigh()) return 1;
+    if (!equip()) return 1;
 
-    /* The goal: where the arm stands when it is at the taught block. */
+    /* The goal: where the sonde's tip is when the arm stands at the taught block. */
     memcpy(joints.at, taught, sizeof taught);
     if (!pose()) return 1;
     memcpy(goals.at, ends.at, sizeof ends.at);
@@ -336,7 +374,7 @@ int main(void) {
     print_end("goal set");
 
     memcpy(joints.at, start, sizeof start);
-    if (!taken("reset", ASK(relaxed_ik_reset(SHEET, READ(joints), WRITE(history), WRITE(ends))))) return 1;
+    if (!taken("reset", ASK(relaxed_ik_reset(SHEET, TOOLS, READ(joints), WRITE(history), WRITE(ends))))) return 1;
     print_end("reset");
 
     if (!rounds()) return 1;

@@ -11,6 +11,7 @@
  *   goals      13 for each chain: position, rotation w first, six tolerances (three of position, three of rotation)
  *   history    four blocks of joints in one list: the current one, then the three before it
  *   weights    8 floats: position, rotation, limits, velocity, acceleration, jerk, manipulability, pairs; or none at all
+ *   tool       7 floats: displacement x, y, z, offset w, i, j, k; or none at all. tool0 to tool3 are those of chains 0 to 3
  *   joints     a float for each joint, chain after chain
  *   plan       four u16s, by which lists are reserved: see relaxed_ik_sizing
  *
@@ -19,6 +20,12 @@
  *
  * Weights. Each kind of objective counts by its weight, within 0..1000. A call that is lent no byte of weights takes the built-in ones: 50,
  * 10, 0.1, 0.7, 0.5, 0.3, 1, 0.01. relaxed_ik_set_weights looks at a list before it is put to use; there an empty list is refused too.
+ *
+ * Tools. A chain may have a tool on its flange, ranged as a link's floats: its end pose is then the last link's followed by the tool, as if by
+ * a fixed link. relaxed_ik_pose, relaxed_ik_reset and the objective with its slopes go by the end pose; frames, manipulability, pairs of
+ * links and the record stop at the last link. No byte is no tool, and the end pose is the last link's; a list of any byte for a chain that
+ * is not loaded is refused, whatever it holds. relaxed_ik_set_tool looks at one tool before it is put to use; there an empty list is refused
+ * too.
  *
  * Answers. A call on lists answers 0 if it was taken, or the number of the refusal, and then every list is as it was. Where several refusals
  * hold, the lowest is the answer. The calls keep no state: everything is lent each time, and the answer depends on nothing else.
@@ -51,6 +58,7 @@ extern "C" {
 #define RELAXED_IK_WRONG_GOALS 8     /* not 13 a chain, position or tolerance not within -100..100, or rotation as in 6 */
 #define RELAXED_IK_TOO_SHORT 9       /* a list to be written is too short, or no whole number of elements */
 #define RELAXED_IK_WRONG_WEIGHTS 10  /* not eight, or a value not within 0..1000 */
+#define RELAXED_IK_WRONG_TOOL 11     /* not seven, displacement or offset as in 6, or a chain that is not loaded */
 
 /* ---- fixed lengths, in elements */
 
@@ -62,6 +70,7 @@ extern "C" {
 #define RELAXED_IK_ROTATION_FLOATS 4
 #define RELAXED_IK_HISTORY_BLOCKS 4
 #define RELAXED_IK_WEIGHT_FLOATS 8   /* weights, one a kind of objective */
+#define RELAXED_IK_TOOL_FLOATS 7     /* a tool: displacement, then offset w first */
 #define RELAXED_IK_PLAN_NUMBERS 4    /* u16s of a plan */
 
 /* Where each number of a plan stands. */
@@ -117,6 +126,15 @@ uint32_t relaxed_ik_set_goals(
     const uint8_t *limits, size_t limits_length,
     const uint8_t *goals, size_t goals_length);
 
+/* Looks at a tool. Lent: the sheet, the tool, and the number of its chain, from 0. Comes back: the number alone. Answers 0 to 6, 11. */
+uint32_t relaxed_ik_set_tool(
+    const uint8_t *sizes, size_t sizes_length,
+    const uint8_t *codes, size_t codes_length,
+    const uint8_t *floats, size_t floats_length,
+    const uint8_t *limits, size_t limits_length,
+    const uint8_t *tool, size_t tool_length,
+    uint32_t chain);
+
 /* Where every link stands. Lent: the sheet, joints. Comes back, chain after chain: positions, 3 floats each, one more than the chain has
  * links (its base first), and rotations, 4 floats each, two more (the last one twice). Answers 0 to 7, 9. */
 uint32_t relaxed_ik_frames(
@@ -128,12 +146,16 @@ uint32_t relaxed_ik_frames(
     uint8_t *positions, size_t positions_length,
     uint8_t *rotations, size_t rotations_length);
 
-/* The end pose of each chain. Lent: the sheet, joints. Comes back: 7 floats a chain. Answers 0 to 7, 9. */
+/* The end pose of each chain. Lent: the sheet, tools, joints. Comes back: 7 floats a chain. Answers 0 to 7, 9, 11. */
 uint32_t relaxed_ik_pose(
     const uint8_t *sizes, size_t sizes_length,
     const uint8_t *codes, size_t codes_length,
     const uint8_t *floats, size_t floats_length,
     const uint8_t *limits, size_t limits_length,
+    const uint8_t *tool0, size_t tool0_length,
+    const uint8_t *tool1, size_t tool1_length,
+    const uint8_t *tool2, size_t tool2_length,
+    const uint8_t *tool3, size_t tool3_length,
     const uint8_t *joints, size_t joints_length,
     uint8_t *ends, size_t ends_length);
 
@@ -147,13 +169,17 @@ uint32_t relaxed_ik_manipulability(
     const uint8_t *joints, size_t joints_length,
     uint8_t *value, size_t value_length);
 
-/* A new start. Lent: the sheet, joints. Comes back: the history, which is the joints four times, and the end poses, 7 floats a chain.
- * Answers 0 to 7, 9. */
+/* A new start. Lent: the sheet, tools, joints. Comes back: the history, which is the joints four times, and the end poses, 7 floats a chain.
+ * Answers 0 to 7, 9, 11. */
 uint32_t relaxed_ik_reset(
     const uint8_t *sizes, size_t sizes_length,
     const uint8_t *codes, size_t codes_length,
     const uint8_t *floats, size_t floats_length,
     const uint8_t *limits, size_t limits_length,
+    const uint8_t *tool0, size_t tool0_length,
+    const uint8_t *tool1, size_t tool1_length,
+    const uint8_t *tool2, size_t tool2_length,
+    const uint8_t *tool3, size_t tool3_length,
     const uint8_t *joints, size_t joints_length,
     uint8_t *history, size_t history_length,
     uint8_t *ends, size_t ends_length);
@@ -175,7 +201,7 @@ uint32_t relaxed_ik_update(
 uint32_t relaxed_ik_set_weights(
     const uint8_t *weights, size_t weights_length);
 
-/* The objective. Lent: the sheet, goals, history, weights, joints. Comes back: one float. Answers 0 to 10. */
+/* The objective. Lent: the sheet, goals, history, weights, tools, joints. Comes back: one float. Answers 0 to 11. */
 uint32_t relaxed_ik_objective(
     const uint8_t *sizes, size_t sizes_length,
     const uint8_t *codes, size_t codes_length,
@@ -184,11 +210,15 @@ uint32_t relaxed_ik_objective(
     const uint8_t *goals, size_t goals_length,
     const uint8_t *history, size_t history_length,
     const uint8_t *weights, size_t weights_length,
+    const uint8_t *tool0, size_t tool0_length,
+    const uint8_t *tool1, size_t tool1_length,
+    const uint8_t *tool2, size_t tool2_length,
+    const uint8_t *tool3, size_t tool3_length,
     const uint8_t *joints, size_t joints_length,
     uint8_t *value, size_t value_length);
 
-/* The objective and its slopes by steps of 1e-7, loss by loss. Lent: the sheet, goals, history, weights, joints. Comes back: scratch, a
- * float a joint, which ends equal to the joints; the value, one float; the slopes, one a joint. Answers 0 to 10. */
+/* The objective and its slopes by steps of 1e-7, loss by loss. Lent: the sheet, goals, history, weights, tools, joints. Comes back: scratch,
+ * a float a joint, which ends equal to the joints; the value, one float; the slopes, one a joint. Answers 0 to 11. */
 uint32_t relaxed_ik_gradient(
     const uint8_t *sizes, size_t sizes_length,
     const uint8_t *codes, size_t codes_length,
@@ -197,12 +227,16 @@ uint32_t relaxed_ik_gradient(
     const uint8_t *goals, size_t goals_length,
     const uint8_t *history, size_t history_length,
     const uint8_t *weights, size_t weights_length,
+    const uint8_t *tool0, size_t tool0_length,
+    const uint8_t *tool1, size_t tool1_length,
+    const uint8_t *tool2, size_t tool2_length,
+    const uint8_t *tool3, size_t tool3_length,
     const uint8_t *joints, size_t joints_length,
     uint8_t *scratch, size_t scratch_length,
     uint8_t *value, size_t value_length,
     uint8_t *slopes, size_t slopes_length);
 
-/* The objective and its slopes by steps of 1e-6 of the whole. The lists are those of relaxed_ik_gradient. Answers 0 to 10. */
+/* The objective and its slopes by steps of 1e-6 of the whole. The lists are those of relaxed_ik_gradient. Answers 0 to 11. */
 uint32_t relaxed_ik_gradient_finite_diff(
     const uint8_t *sizes, size_t sizes_length,
     const uint8_t *codes, size_t codes_length,
@@ -211,15 +245,19 @@ uint32_t relaxed_ik_gradient_finite_diff(
     const uint8_t *goals, size_t goals_length,
     const uint8_t *history, size_t history_length,
     const uint8_t *weights, size_t weights_length,
+    const uint8_t *tool0, size_t tool0_length,
+    const uint8_t *tool1, size_t tool1_length,
+    const uint8_t *tool2, size_t tool2_length,
+    const uint8_t *tool3, size_t tool3_length,
     const uint8_t *joints, size_t joints_length,
     uint8_t *scratch, size_t scratch_length,
     uint8_t *value, size_t value_length,
     uint8_t *slopes, size_t slopes_length);
 
 /* What relaxed_ik_gradient answers, bit for bit, without scratch, and the record of the links it walked. Lent: the sheet, goals, history,
- * weights, joints. Comes back: the value, one float; the slopes, one a joint; the record as three parallel lists, in the order walked: the
- * joint raised (u16; 65535 in the first walk), the link (u16), both numbered across chains, and the pose after that link (7 floats). The
- * record has all links, then for each joint those from its own to its chain's end. Answers 0 to 10. */
+ * weights, tools, joints. Comes back: the value, one float; the slopes, one a joint; the record as three parallel lists, in the order
+ * walked: the joint raised (u16; 65535 in the first walk), the link (u16), both numbered across chains, and the pose after that link (7
+ * floats). The record has all links, then for each joint those from its own to its chain's last. Answers 0 to 11. */
 uint32_t relaxed_ik_gradient_one_block(
     const uint8_t *sizes, size_t sizes_length,
     const uint8_t *codes, size_t codes_length,
@@ -228,6 +266,10 @@ uint32_t relaxed_ik_gradient_one_block(
     const uint8_t *goals, size_t goals_length,
     const uint8_t *history, size_t history_length,
     const uint8_t *weights, size_t weights_length,
+    const uint8_t *tool0, size_t tool0_length,
+    const uint8_t *tool1, size_t tool1_length,
+    const uint8_t *tool2, size_t tool2_length,
+    const uint8_t *tool3, size_t tool3_length,
     const uint8_t *joints, size_t joints_length,
     uint8_t *value, size_t value_length,
     uint8_t *slopes, size_t slopes_length,

@@ -13,17 +13,17 @@ speed_ratio_take:                       # 0: before, 1: after
     mov %rax, taken(%rip)
     ret
 
-    .globl speed_ratio_weights
-    .type speed_ratio_weights, @function
-speed_ratio_weights:                    # whether that build's calls are lent weights: 'before_weights' and 'after_weights' are set to 0 or 1
+    .globl speed_ratio_tools
+    .type speed_ratio_tools, @function
+speed_ratio_tools:                      # whether that build's calls are lent tools: 'before_tools' and 'after_tools' are set to 0 or 1
     mov %edi, %eax
-    lea weights(%rip), %r11
+    lea tools(%rip), %r11
     movzbl (%r11, %rax), %eax
     ret
 
     .section .rodata
-weights:
-    .byte before_weights, after_weights
+tools:
+    .byte before_tools, after_tools
     .text
 
     .macro forward name

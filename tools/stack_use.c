@@ -13,12 +13,15 @@ static volatile unsigned char *lowest;
 static uint16_t sizes[2] = {1, JOINTS}, codes[JOINTS], plan[4], record_joints[400], record_links[400];
 static double floats[7 * JOINTS], limits[2 * JOINTS], goals[13], history[4 * JOINTS], joints[JOINTS];
 static double weights[8] = {50, 10, 0.1, 0.7, 0.5, 0.3, 1, 0.01};
+static double tool[7] = {0.1, -0.05, 0.07, 0.5, 0.5, -0.5, 0.5};
 static double value[1], ends[7], blocks[4 * JOINTS], slopes[JOINTS], scratch[JOINTS], positions[3 * (JOINTS + 1)], rotations[4 * (JOINTS + 2)], record_poses[2800];
 
 #define LIST(a) (const uint8_t *)(a), sizeof(a)
 #define OUT(a) (uint8_t *)(a), sizeof(a)
 #define SHEET LIST(sizes), LIST(codes), LIST(floats), LIST(limits)
-#define STATE SHEET, LIST(goals), LIST(history), LIST(weights), LIST(joints)
+#define NO_TOOL (const uint8_t *)tool, 0
+#define TOOLS LIST(tool), NO_TOOL, NO_TOOL, NO_TOOL
+#define STATE SHEET, LIST(goals), LIST(history), LIST(weights), TOOLS, LIST(joints)
 
 static void paint(void)
 {
@@ -67,11 +70,12 @@ int main(void)
     MEASURE("sizing", relaxed_ik_sizing(LIST(sizes), LIST(codes), LIST(floats), OUT(plan)));
     MEASURE("set_goals", relaxed_ik_set_goals(SHEET, LIST(goals)));
     MEASURE("frames", relaxed_ik_frames(SHEET, LIST(joints), OUT(positions), OUT(rotations)));
-    MEASURE("pose", relaxed_ik_pose(SHEET, LIST(joints), OUT(ends)));
+    MEASURE("pose", relaxed_ik_pose(SHEET, TOOLS, LIST(joints), OUT(ends)));
     MEASURE("manipulability", relaxed_ik_manipulability(SHEET, LIST(joints), OUT(value)));
-    MEASURE("reset", relaxed_ik_reset(SHEET, LIST(joints), OUT(blocks), OUT(ends)));
+    MEASURE("reset", relaxed_ik_reset(SHEET, TOOLS, LIST(joints), OUT(blocks), OUT(ends)));
     MEASURE("update", relaxed_ik_update(SHEET, LIST(history), LIST(joints), OUT(blocks)));
     MEASURE("set_weights", relaxed_ik_set_weights(LIST(weights)));
+    MEASURE("set_tool", relaxed_ik_set_tool(SHEET, LIST(tool), 0));
     MEASURE("objective", relaxed_ik_objective(STATE, OUT(value)));
     MEASURE("gradient", relaxed_ik_gradient(STATE, OUT(scratch), OUT(value), OUT(slopes)));
     MEASURE("gradient_finite_diff", relaxed_ik_gradient_finite_diff(STATE, OUT(scratch), OUT(value), OUT(slopes)));

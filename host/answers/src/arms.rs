@@ -6,6 +6,7 @@ use reference::refusals::{self, f64s, u16s, RecordRoom, Room};
 use reference::sheet;
 use reference::sizing::{plan, PLAN};
 use reference::spacetime::robot::Robot;
+use reference::tools::{self, tools, Tools, TOOLS};
 use reference::weights;
 
 /// By their numbers in the stored list.
@@ -25,6 +26,7 @@ pub enum Call {
     /// The leaves' numbers lie before it.
     Sizing = 41,
     SetWeights,
+    SetTool,
 }
 
 /// Those whose records come before the leaves'.
@@ -52,13 +54,26 @@ pub enum List {
     Goals,
     History,
     Weights,
+    /// That of chain 0, and the one that is set.
+    Tool0,
+    Tool1,
+    Tool2,
+    Tool3,
     Joints,
+    /// The number of the chain whose tool is set, a u16.
+    Chain,
 }
 
-use List::{Codes, Floats, Goals, History, Joints, Limits, Sizes, Weights};
+use List::{
+    Chain, Codes, Floats, Goals, History, Joints, Limits, Sizes, Tool0, Tool1, Tool2, Tool3,
+    Weights,
+};
+
+/// By chain.
+pub const TOOL_LISTS: [List; TOOLS] = [Tool0, Tool1, Tool2, Tool3];
 
 /// How many there are.
-const LISTS: usize = Joints as usize + 1;
+const LISTS: usize = Chain as usize + 1;
 
 impl Call {
     pub fn read(self) -> &'static [List] {
@@ -67,12 +82,17 @@ impl Call {
             Call::Sizing => &[Sizes, Codes, Floats],
             Call::SetGoals => &[Sizes, Codes, Floats, Limits, Goals],
             Call::SetWeights => &[Weights],
+            Call::SetTool => &[Sizes, Codes, Floats, Limits, Tool0, Chain],
+            Call::Pose | Call::Reset => &[
+                Sizes, Codes, Floats, Limits, Tool0, Tool1, Tool2, Tool3, Joints,
+            ],
             Call::Update => &[Sizes, Codes, Floats, Limits, History, Joints],
             Call::Objective
             | Call::Gradient
             | Call::GradientFiniteDiff
             | Call::GradientOneBlock => &[
-                Sizes, Codes, Floats, Limits, Goals, History, Weights, Joints,
+                Sizes, Codes, Floats, Limits, Goals, History, Weights, Tool0, Tool1, Tool2, Tool3,
+                Joints,
             ],
             _ => &[Sizes, Codes, Floats, Limits, Joints],
         }
@@ -87,7 +107,7 @@ impl Call {
             walked,
         } = *counts;
         let floats: Vec<usize> = match self {
-            Call::Load | Call::SetGoals | Call::SetWeights => vec![],
+            Call::Load | Call::SetGoals | Call::SetWeights | Call::SetTool => vec![],
             Call::Pose => vec![7 * chains],
             Call::Manipulability | Call::Objective => vec![1],
             Call::Update => vec![4 * joints],
@@ -140,6 +160,22 @@ impl Lent {
         f64s(self.get(list), &mut floats);
         floats
     }
+
+    /// The chain whose tool is set; one that no sheet has where none is lent.
+    pub fn chain(&self) -> u32 {
+        let mut numbers = Vec::new();
+        u16s(self.get(Chain), &mut numbers);
+        numbers.first().copied().unwrap_or(u16::MAX).into()
+    }
+
+    /// The tools that are lent.
+    fn tools<'a>(&self, floats: &'a mut [Vec<f64>; TOOLS]) -> refusals::Tools<'a> {
+        let mut tools = [refusals::List::NONE; TOOLS];
+        for ((tool, list), floats) in tools.iter_mut().zip(TOOL_LISTS).zip(floats) {
+            *tool = f64s(self.get(list), floats);
+        }
+        tools
+    }
 }
 
 /// The record of a call that is lent these lists and outputs of so many bytes.
@@ -167,6 +203,7 @@ fn answer(call: Call, lent: &Lent, rooms: &[usize]) -> (u32, Vec<Vec<u8>>) {
     let (mut floats, mut limits) = (Vec::new(), Vec::new());
     let (mut goals, mut history) = (Vec::new(), Vec::new());
     let (mut weights, mut joints) = (Vec::new(), Vec::new());
+    let mut tool_lists = Default::default();
     let sheet = refusals::Sheet {
         sizes: u16s(lent.get(Sizes), &mut sizes),
         codes: u16s(lent.get(Codes), &mut codes),
@@ -178,8 +215,10 @@ fn answer(call: Call, lent: &Lent, rooms: &[usize]) -> (u32, Vec<Vec<u8>>) {
         goals: f64s(lent.get(Goals), &mut goals),
         history: f64s(lent.get(History), &mut history),
         weights: f64s(lent.get(Weights), &mut weights),
+        tools: lent.tools(&mut tool_lists),
     };
-    let number = refusal(call, &given, f64s(lent.get(Joints), &mut joints), rooms);
+    let block = f64s(lent.get(Joints), &mut joints);
+    let number = refusal(call, &given, block, lent.chain(), rooms);
     if number != refusals::ACCEPTED || rooms.is_empty() {
         return (number, Vec::new());
     }
@@ -191,6 +230,7 @@ fn answer(call: Call, lent: &Lent, rooms: &[usize]) -> (u32, Vec<Vec<u8>>) {
         goals: &goals,
         history: &history,
         weights: &weights,
+        tools: tools(&tool_lists),
         joints: &joints,
     };
     (number, written(call, robot, &given))
@@ -200,21 +240,23 @@ fn refusal(
     call: Call,
     given: &refusals::Given,
     joints: refusals::List<f64>,
+    chain: u32,
     rooms: &[usize],
 ) -> u32 {
-    let sheet = &given.sheet;
+    let (sheet, tools) = (&given.sheet, &given.tools);
     let room = |at: usize| Room::of_bytes(rooms[at]);
     match call {
         Call::Load => refusals::load(sheet),
         Call::Sizing => refusals::sizing(sheet, Room::of_u16_bytes(rooms[0])),
         Call::SetGoals => refusals::set_goals(sheet, given.goals),
         Call::SetWeights => refusals::set_weights(given.weights),
-        Call::Pose => refusals::pose(sheet, joints, room(0)),
+        Call::SetTool => refusals::set_tool(sheet, tools[0], chain),
+        Call::Pose => refusals::pose(sheet, tools, joints, room(0)),
         Call::Manipulability => refusals::manipulability(sheet, joints, room(0)),
         Call::Update => refusals::update(sheet, given.history, joints, room(0)),
         Call::Objective => refusals::objective(given, joints, room(0)),
         Call::Frames => refusals::frames(sheet, joints, room(0), room(1)),
-        Call::Reset => refusals::reset(sheet, joints, room(0), room(1)),
+        Call::Reset => refusals::reset(sheet, tools, joints, room(0), room(1)),
         Call::Gradient | Call::GradientFiniteDiff => {
             refusals::gradient(given, joints, room(0), room(1), room(2))
         }
@@ -234,6 +276,7 @@ struct Given<'a> {
     goals: &'a [f64],
     history: &'a [f64],
     weights: &'a [f64],
+    tools: Tools,
     joints: &'a [f64],
 }
 
@@ -242,8 +285,8 @@ fn written(call: Call, robot: Robot, given: &Given) -> Vec<Vec<u8>> {
     let floats = |lists: &[&[f64]]| lists.iter().map(|list| answer_bytes(list)).collect();
     let joints = given.joints;
     match call {
-        Call::Load | Call::SetGoals | Call::SetWeights => Vec::new(),
-        Call::Pose => floats(&[&sheet::ends(&robot, joints)]),
+        Call::Load | Call::SetGoals | Call::SetWeights | Call::SetTool => Vec::new(),
+        Call::Pose => floats(&[&tools::ends(&robot, &given.tools, joints)]),
         Call::Manipulability => floats(&[&[robot.get_manipulability_immutable(joints)]]),
         Call::Frames => {
             let (positions, rotations) = sheet::frames(&robot, joints);
@@ -251,7 +294,7 @@ fn written(call: Call, robot: Robot, given: &Given) -> Vec<Vec<u8>> {
         }
         Call::Reset => {
             let mut vars = sheet::loaded(robot);
-            vars.reset(joints.to_vec());
+            tools::reset(&mut vars, &given.tools, joints);
             floats(&[&sheet::history(&vars), &sheet::start_ends(&vars)])
         }
         Call::Update => {
@@ -264,12 +307,13 @@ fn written(call: Call, robot: Robot, given: &Given) -> Vec<Vec<u8>> {
     }
 }
 
-/// The calls on goals, history and weights. The one-block gradient is
+/// The calls on goals, history, weights and tools. The one-block gradient is
 /// `gradient`'s, its record that of walks of separate copies.
 fn aimed(call: Call, robot: Robot, given: &Given) -> Vec<Vec<u8>> {
     let joints = given.joints;
     let walks = record(&robot, joints);
     let master = weights::master(&robot.chain_lengths, given.weights);
+    let master = tools::with_tools(master, &given.tools);
     let vars = sheet::lent(robot, given.goals, given.history);
     if call == Call::Objective {
         return vec![answer_bytes(&[master.call(joints, &vars)])];

@@ -85,7 +85,7 @@ fn aim(lent: &mut Lent, sizes: &[u16], codes: &[u16], joints: &[f64], draw: &mut
     lent.set(Goals, &goals);
 }
 
-fn link(draw: &mut Draw) -> [f64; 7] {
+pub fn link(draw: &mut Draw) -> [f64; 7] {
     let [x, y, z]: [f64; 3] = std::array::from_fn(|_| draw.between(-0.6, 0.6));
     let [w, i, j, k] = match draw.word() % 4 {
         0 => draw.pick(&[
@@ -99,7 +99,7 @@ fn link(draw: &mut Draw) -> [f64; 7] {
 }
 
 /// A quaternion of length 1 as near as floats allow.
-fn turn(draw: &mut Draw) -> [f64; 4] {
+pub fn turn(draw: &mut Draw) -> [f64; 4] {
     let q: [f64; 4] = std::array::from_fn(|_| draw.between(0.1, 1.0));
     let size = q.iter().map(|v| v * v).sum::<f64>().sqrt();
     q.map(|v| v / size)

@@ -11,6 +11,8 @@ mod leaves;
 mod record;
 mod sequences;
 mod sizing;
+mod tool_sequences;
+mod tools;
 mod weight_sequences;
 mod weights;
 
@@ -52,11 +54,13 @@ fn records(kind: Kind) -> Vec<Record> {
             // What came later is behind all others, which keep their bytes.
             records.extend(sizing::all(&mut draw));
             records.extend(weights::all(&mut draw));
+            records.extend(tools::all(&mut draw));
             records
         }
         Kind::Sequences => {
             let mut records = sequences::all(&mut draw);
             records.extend(weight_sequences::all(&mut draw));
+            records.extend(tool_sequences::all(&mut draw));
             records
         }
     }
@@ -116,6 +120,7 @@ fn main() -> ExitCode {
 #[cfg(test)]
 mod tests {
     use super::*;
+    use reference::tools::TOOLS;
 
     #[test]
     fn the_stored_lists_are_up_to_date() {
@@ -129,27 +134,53 @@ mod tests {
         }
     }
 
-    /// What was stored before there were weights: records, bytes, their FNV-1a sum.
-    const BEFORE_WEIGHTS: [(Kind, usize, usize, u64); 2] = [
+    /// What was stored before a change: records, bytes, their FNV-1a sum.
+    type Before = [(Kind, usize, usize, u64); 2];
+
+    const BEFORE_WEIGHTS: Before = [
         (Kind::Calls, 1126, 305_604, 0x052b_4a88_88d8_9df9),
         (Kind::Sequences, 1275, 363_994, 0x4480_a2d4_96b5_6c87),
     ];
+    const BEFORE_TOOLS: Before = [
+        (Kind::Calls, 1286, 379_584, 0xcaa5_624b_5967_e0cf),
+        (Kind::Sequences, 1436, 391_684, 0x52e5_9b0b_7600_12f1),
+    ];
 
-    /// The older records without their empty list of weights are the older file,
-    /// byte for byte.
+    fn without_tools(record: &mut Record) {
+        if let Some(at) = tools::place(record) {
+            let lists = record.lists.drain(at..at + TOOLS);
+            assert!(lists.into_iter().all(|list| list.is_empty()));
+        }
+    }
+
+    fn without_weights(record: &mut Record) {
+        if weights::is_weighted(record) {
+            assert!(record.lists.remove(arms::List::Weights as usize).is_empty());
+        }
+    }
+
+    /// The older records without the empty lists that they were given are the older
+    /// file, byte for byte.
     #[test]
     fn older_records_keep_their_bytes() {
-        let list = arms::List::Weights as usize;
-        for (kind, count, length, sum) in BEFORE_WEIGHTS {
-            let mut older = records(kind);
-            older.truncate(count);
-            // A call on the state is lent no weights.
-            let lent = |record: &Record| kind == Kind::Calls && weights::is_weighted(record);
-            for record in older.iter_mut().filter(|record| lent(record)) {
-                assert!(record.lists.remove(list).is_empty());
+        type Without = &'static [fn(&mut Record)];
+        let changes: [(Before, Without); 2] = [
+            (BEFORE_TOOLS, &[without_tools]),
+            (BEFORE_WEIGHTS, &[without_tools, without_weights]),
+        ];
+        for (before, without) in changes {
+            for (kind, count, length, sum) in before {
+                let mut older = records(kind);
+                older.truncate(count);
+                // A call on the state is lent neither weights nor tools.
+                if kind == Kind::Calls {
+                    without
+                        .iter()
+                        .for_each(|lists| older.iter_mut().for_each(lists));
+                }
+                let bytes = record::stored(&older).expect("a list");
+                assert_eq!((bytes.len(), draw::fnv(&bytes)), (length, sum));
             }
-            let bytes = record::stored(&older).expect("a list");
-            assert_eq!((bytes.len(), draw::fnv(&bytes)), (length, sum));
         }
     }
 }

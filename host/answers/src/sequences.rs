@@ -11,6 +11,7 @@ use reference::groove::vars::RelaxedIKVars;
 use reference::record::record;
 use reference::refusals::{self, f64s, u16s, RecordRoom, Room, ACCEPTED};
 use reference::sheet;
+use reference::tools::{self, tools, TOOLS};
 use reference::weights;
 
 /// By their numbers in the stored list.
@@ -29,15 +30,16 @@ pub enum Step {
     Gradient,
     GradientFiniteDiff,
     GradientOneBlock,
-    /// No call: what the state keeps besides arms and weights.
+    /// No call: what the state keeps besides arms, weights and tools.
     Kept,
     /// Behind all others, which keep their numbers.
     SetWeights,
+    SetTool,
 }
 
 use Step::*;
 
-pub const STEPS: [Step; 14] = [
+pub const STEPS: [Step; 15] = [
     Empty,
     Load,
     SetGoals,
@@ -52,6 +54,7 @@ pub const STEPS: [Step; 14] = [
     GradientOneBlock,
     Kept,
     SetWeights,
+    SetTool,
 ];
 
 impl Step {
@@ -62,6 +65,7 @@ impl Step {
             Load => &[0, 1, 2, 3, 4, 5, 6],
             SetGoals => &[0, 8, 20],
             SetWeights => &[0, 10],
+            SetTool => &[0, 11, 20],
             Reset | Manipulability => &[0, 7, 20],
             Update => &[0, 7, 20, 22],
             Frames | Pose => &[0, 7, 9, 20],
@@ -95,6 +99,8 @@ pub struct State {
     started: bool,
     /// Empty for none loaded.
     weights: Vec<f64>,
+    /// By chain, empty for none.
+    tools: [Vec<f64>; TOOLS],
 }
 
 /// The outputs of a call: its value, and lists of floats or of u16s.
@@ -141,8 +147,9 @@ impl State {
         };
         let (mut a, mut b, mut c, mut d) = (vec![], vec![], vec![], vec![]);
         let sheet = sheet_of(own, (&mut a, &mut b), (&mut c, &mut d));
-        let (mut goals, mut joints) = (vec![], vec![]);
+        let (mut goals, mut tool, mut joints) = (vec![], vec![], vec![]);
         let new_goals = f64s(asked.lent.get(List::Goals), &mut goals);
+        let new_tool = f64s(asked.lent.get(List::Tool0), &mut tool);
         let joints = f64s(asked.lent.get(List::Joints), &mut joints);
         let kept = self.goals.clone().unwrap_or_default();
         let history = sheet::history(vars);
@@ -151,14 +158,19 @@ impl State {
             goals: refusals::List::of(&kept),
             history: refusals::List::of(&history),
             weights: refusals::List::of(&self.weights),
+            tools: self
+                .tools
+                .each_ref()
+                .map(|tool| refusals::List::of(&tool[..])),
         };
         let (enough, last) = (Room::of(ENOUGH), Room::of(last_room(asked, own)));
         match step {
             SetGoals => refusals::set_goals(&sheet, new_goals),
-            Reset => refusals::reset(&sheet, joints, enough, enough),
+            SetTool => refusals::set_tool(&sheet, new_tool, asked.lent.chain()),
+            Reset => refusals::reset(&sheet, &given.tools, joints, enough, enough),
             Update => refusals::update(&sheet, given.history, joints, enough),
             Frames => refusals::frames(&sheet, joints, enough, last),
-            Pose => refusals::pose(&sheet, joints, last),
+            Pose => refusals::pose(&sheet, &given.tools, joints, last),
             Manipulability => refusals::manipulability(&sheet, joints, enough),
             Objective => refusals::objective(&given, joints, enough),
             Gradient | GradientFiniteDiff => {
@@ -187,8 +199,9 @@ impl State {
                 sheet::set_goals(vars, &goals);
                 self.goals = Some(goals);
             }
+            SetTool => self.tools[lent.chain() as usize] = lent.floats(List::Tool0),
             Reset => {
-                vars.reset(joints);
+                tools::reset(vars, &tools(&self.tools), &joints);
                 self.started = true;
             }
             Update => vars.update(joints),
@@ -201,14 +214,15 @@ impl State {
         let Some((_, vars)) = &self.arms else {
             return vec![];
         };
-        let robot = &vars.robot;
-        let master = || weights::master(&robot.chain_lengths, &self.weights);
+        let (robot, tools) = (&vars.robot, tools(&self.tools));
+        let weighted = || weights::master(&robot.chain_lengths, &self.weights);
+        let master = || tools::with_tools(weighted(), &tools);
         match step {
             Frames => {
                 let (positions, rotations) = sheet::frames(robot, joints);
                 vec![Floats(positions), Floats(rotations)]
             }
-            Pose => vec![Floats(sheet::ends(robot, joints))],
+            Pose => vec![Floats(tools::ends(robot, &tools, joints))],
             Manipulability => vec![Value(robot.get_manipulability_immutable(joints))],
             Objective => vec![Value(master().call(joints, vars))],
             Gradient | GradientFiniteDiff => {
@@ -355,6 +369,7 @@ pub fn play(state: &mut State, asked: &Asked) -> Record {
         Load => &[List::Sizes, List::Codes, List::Floats, List::Limits],
         SetGoals => &[List::Goals],
         SetWeights => &[List::Weights],
+        SetTool => &[List::Tool0, List::Chain],
         _ => &[List::Joints],
     };
     let mut lists: Vec<Vec<u8>> = read.iter().map(|&list| lent.get(list).to_vec()).collect();
@@ -386,8 +401,8 @@ pub fn play(state: &mut State, asked: &Asked) -> Record {
     }
 }
 
-/// An accepted load clears goals and history and keeps the weights; a refused one
-/// leaves all as it was.
+/// An accepted load clears goals, history and tools and keeps the weights; a
+/// refused one leaves all as it was.
 fn load(state: &mut State, lent: &Lent) -> u32 {
     let (mut a, mut b, mut c, mut d) = (vec![], vec![], vec![], vec![]);
     let number = refusals::load(&sheet_of(lent, (&mut a, &mut b), (&mut c, &mut d)));
@@ -422,7 +437,7 @@ fn next(state: &State, draw: &mut Draw) -> Step {
     };
     match lacking {
         Some(step) if draw.below(3) == 0 => step,
-        // These sequences set no weights.
+        // These sequences set no weights and no tools.
         _ => draw.pick(&STEPS[1..SetWeights as usize]),
     }
 }

@@ -47,7 +47,7 @@ const BEYOND: [Shape; 3] = [
 ];
 
 /// The largest w for which w alone is still a rotation.
-fn widest() -> f64 {
+pub fn widest() -> f64 {
     let end = 1.000000001f64;
     let mut w = end.sqrt().next_up();
     while w * w > end {

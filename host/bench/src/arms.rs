@@ -4,14 +4,20 @@
 //! so the ratio holds all of that too. Calls that do little else than check
 //! have the plain reading of the refusals on the other side.
 
-use crate::{Draw, Rows};
+use crate::builds::all_take_tools;
+use crate::{tooled, Draw, Rows, WITH_TOOLS};
 use reference::groove::vars::RelaxedIKVars;
 use reference::refusals::{self, f64s, u16s};
 use reference::sheet;
 use reference::sizing::{plan, PLAN};
 use reference::spacetime::robot::Robot;
-use relaxed_ik::bytes::{self, put_floats, put_u16s, Sheet};
+use reference::tools::{self, TOOLS, TOOL_FLOATS};
+use relaxed_ik::bytes::{self, of_floats, put_floats, put_u16s, Sheet, Tools};
 use std::cell::RefCell;
+
+pub const NO_TOOLS: Tools = [&[]; TOOLS];
+/// A sonde as long as a link, turned on its flange.
+const TOOL: [f64; TOOL_FLOATS] = [0.02, -0.01, 0.09, 0.8, 0.0, 0.0, 0.6];
 
 /// Chains that turn at every link, axes in turn, in numbers and in bytes.
 pub struct Chains {
@@ -57,6 +63,16 @@ impl Chains {
             floats: &self.floats,
             limits: &self.limits,
         }
+    }
+
+    /// The tool on every chain, as the reference has it and in bytes.
+    pub fn tools(&self) -> (tools::Tools, Tools<'static>) {
+        let list = |at: usize| match at < self.robot.num_chains {
+            true => &TOOL[..],
+            false => &[],
+        };
+        let lists: [&'static [f64]; TOOLS] = std::array::from_fn(list);
+        (tools::tools(&lists), lists.map(of_floats))
     }
 }
 
@@ -192,6 +208,7 @@ fn checks(rows: &mut Rows, draw: &mut Draw, label: &str, chains: &Chains) {
         |(chains, _)| f64::from(refusals::load(&decoded.borrow_mut().sheet(chains))),
     );
     sizing(rows, label, &sheets);
+    set_tool(rows, label, &sheets);
     let numbers = RefCell::new(Vec::new());
     rows.row(
         &format!("set_goals, {label}"),
@@ -201,6 +218,29 @@ fn checks(rows: &mut Rows, draw: &mut Draw, label: &str, chains: &Chains) {
             let (decoded, numbers) = (&mut *decoded.borrow_mut(), &mut *numbers.borrow_mut());
             let goals = f64s(&block.goals_bytes, numbers);
             f64::from(refusals::set_goals(&decoded.sheet(chains), goals))
+        },
+    );
+}
+
+/// The last chain's.
+fn set_tool(rows: &mut Rows, label: &str, sheets: &[(Chains, Block)]) {
+    let decoded = RefCell::new((Decoded::default(), Vec::new()));
+    let last = |chains: &Chains| chains.robot.num_chains as u32 - 1;
+    rows.row(
+        &format!("set_tool, {label}"),
+        sheets,
+        |(chains, _)| {
+            let tool = of_floats(&TOOL);
+            f64::from(bytes::set_tool(chains.sheet(), tool, last(chains)))
+        },
+        |(chains, _)| {
+            let (decoded, tool) = &mut *decoded.borrow_mut();
+            let tool = f64s(of_floats(&TOOL), tool);
+            f64::from(refusals::set_tool(
+                &decoded.sheet(chains),
+                tool,
+                last(chains),
+            ))
         },
     );
 }
@@ -257,13 +297,17 @@ fn ends(rows: &mut Rows, label: &str, chains: &Chains, blocks: &[Block]) {
         blocks,
         |block| {
             let ends = &mut outputs.borrow_mut().ends;
-            last(bytes::pose(chains.sheet(), &block.joints_bytes, ends), ends)
+            let (sheet, joints) = (chains.sheet(), &block.joints_bytes);
+            last(tooled::pose(sheet, NO_TOOLS, joints, ends), ends)
         },
         |block| {
             let ends = chains.robot.get_ee_pos_and_quat_immutable(&block.joints);
             ends[ends.len() - 1].1.k
         },
     );
+    if all_take_tools() {
+        tips(rows, label, chains, blocks, &outputs);
+    }
     rows.row(
         &format!("manipulability, {label}"),
         blocks,
@@ -273,6 +317,30 @@ fn ends(rows: &mut Rows, label: &str, chains: &Chains, blocks: &[Block]) {
             last(answer, value)
         },
         |block| chains.robot.get_manipulability_immutable(&block.joints),
+    );
+}
+
+/// The end poses with a tool on every chain.
+fn tips(
+    rows: &mut Rows,
+    label: &str,
+    chains: &Chains,
+    blocks: &[Block],
+    outputs: &RefCell<Outputs>,
+) {
+    let (own, lent) = chains.tools();
+    rows.row(
+        &format!("pose{WITH_TOOLS}, {label}"),
+        blocks,
+        |block| {
+            let ends = &mut outputs.borrow_mut().ends;
+            let (sheet, joints) = (chains.sheet(), &block.joints_bytes);
+            last(tooled::pose(sheet, lent, joints, ends), ends)
+        },
+        |block| {
+            let ends = tools::ends(&chains.robot, &own, &block.joints);
+            ends[ends.len() - 1]
+        },
     );
 }
 
@@ -290,7 +358,8 @@ fn reset(rows: &mut Rows, label: &str, chains: &Chains, blocks: &[Block]) {
         blocks,
         |block| {
             let Outputs { history, ends, .. } = &mut *outputs.borrow_mut();
-            let answer = bytes::reset(chains.sheet(), &block.joints_bytes, history, ends);
+            let (sheet, joints) = (chains.sheet(), &block.joints_bytes);
+            let answer = tooled::reset(sheet, NO_TOOLS, joints, history, ends);
             last(answer, ends)
         },
         |block| {

@@ -26,29 +26,29 @@ mod linked {
 
     unsafe extern "C" {
         safe fn speed_ratio_take(build: u32);
-        safe fn speed_ratio_weights(build: u32) -> u32;
+        safe fn speed_ratio_tools(build: u32) -> u32;
     }
 
-    /// Whether the build that was taken last has calls that are lent weights.
-    static WEIGHTS: AtomicBool = AtomicBool::new(false);
+    /// Whether the build that was taken last has calls that are lent tools.
+    static TOOLS: AtomicBool = AtomicBool::new(false);
 
     pub fn take(build: Build) {
         speed_ratio_take(build as u32);
-        WEIGHTS.store(has_weights(build), Relaxed);
+        TOOLS.store(has_tools(build), Relaxed);
     }
 
-    pub fn takes_weights() -> bool {
-        WEIGHTS.load(Relaxed)
+    pub fn takes_tools() -> bool {
+        TOOLS.load(Relaxed)
     }
 
-    /// By the function that sets weights: it came with the list.
-    pub fn has_weights(build: Build) -> bool {
-        speed_ratio_weights(build as u32) != 0
+    /// By the function that sets a tool: it came with the lists.
+    pub fn has_tools(build: Build) -> bool {
+        speed_ratio_tools(build as u32) != 0
     }
 }
 
 #[cfg(feature = "two_builds")]
-pub use linked::{take, takes_weights};
+pub use linked::{take, takes_tools};
 
 /// Sends the calls that follow to one build.
 #[cfg(not(feature = "two_builds"))]
@@ -56,12 +56,12 @@ pub fn take(build: Build) {
     unreachable!("{build:?}, where one build is linked");
 }
 
-/// Whether every build that is linked can be lent weights.
-pub fn all_take_weights() -> bool {
+/// Whether every build that is linked can be lent tools.
+pub fn all_take_tools() -> bool {
     #[cfg(feature = "two_builds")]
     return [Build::Before, Build::After]
         .into_iter()
-        .all(linked::has_weights);
+        .all(linked::has_tools);
     #[cfg(not(feature = "two_builds"))]
     true
 }

@@ -14,8 +14,7 @@ mod objective;
 mod ratios;
 mod report;
 mod timing;
-#[cfg(feature = "objective")]
-mod weighted;
+mod tooled;
 
 use builds::{Build, Round};
 use ratios::Ratios;
@@ -34,11 +33,14 @@ bench --round WORD    times the proved side of the rows on both, a line for each
 bench --ratios FILE   prints tables of such lines
 bench --both WORD N   runs the proved side N times on both, untimed";
 
-/// In the name of a row that lends weights, between call and arm.
+/// In the name of a row that lends weights or tools, between call and arm.
+#[cfg(feature = "objective")]
 const WITH_WEIGHTS: &str = " with weights";
+const WITH_TOOLS: &str = " with tools";
 
-fn is_weighted(name: &str) -> bool {
-    name.contains(WITH_WEIGHTS)
+/// Whether the call has a row on the arm besides.
+fn is_second(name: &str) -> bool {
+    name.contains(" with ")
 }
 
 /// Inputs of one pass; small enough to stay near the processor.
@@ -153,7 +155,7 @@ impl Rows {
                 println!("{}", ratios::line(name, &round));
             }
             // Counts are by function, so each has one row on an arm.
-            Wish::Both(word, times) if name.contains(word.as_str()) && !is_weighted(name) => {
+            Wish::Both(word, times) if name.contains(word.as_str()) && !is_second(name) => {
                 for build in [Build::Before, Build::After] {
                     builds::take(build);
                     let sum = repeated(inputs, *times, &proved);

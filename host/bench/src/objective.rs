@@ -2,16 +2,17 @@
 //! proved side is lent everything in bytes and checks it at each call, while
 //! the reference's structures are made beforehand.
 
-use crate::arms::{first, Chains};
-use crate::builds::all_take_weights;
-use crate::weighted::{self, TwoBlocks};
-use crate::{Draw, Rows, WITH_WEIGHTS};
+use crate::arms::{first, Chains, NO_TOOLS};
+use crate::builds::all_take_tools;
+use crate::tooled::{self, TwoBlocks};
+use crate::{Draw, Rows, WITH_TOOLS, WITH_WEIGHTS};
 use reference::groove::objective::{groove_loss, swamp_groove_loss, swamp_loss};
 use reference::groove::objective_master::ObjectiveMaster;
 use reference::groove::vars::RelaxedIKVars;
+use reference::tools::TOOLS;
 use reference::weights::{self, WEIGHTS};
-use reference::{losses as published, record, refusals, sheet};
-use relaxed_ik::bytes::{of_floats, put_floats, set_weights, Given, Record};
+use reference::{losses as published, record, refusals, sheet, tools};
+use relaxed_ik::bytes::{of_floats, set_weights, Given, Record, Tools};
 use relaxed_ik::leaves;
 use std::cell::RefCell;
 
@@ -76,6 +77,9 @@ fn bounded_losses(rows: &mut Rows, draw: &mut Draw) {
 struct State {
     vars: RelaxedIKVars,
     joints: Vec<f64>,
+    history: Vec<f64>,
+    /// The joints whose end poses are the goals.
+    aim: Vec<f64>,
     goals_bytes: Vec<u8>,
     history_bytes: Vec<u8>,
     joints_bytes: Vec<u8>,
@@ -88,31 +92,43 @@ impl State {
             moved.collect()
         };
         let joints = near(&vec![0.0; chains.robot.num_dofs], 3.0);
-        let history: Vec<f64> = (0..4).flat_map(|_| near(&joints, 0.05)).collect();
-        let ends = sheet::ends(&chains.robot, &near(&joints, 0.1));
+        let history = (0..4).flat_map(|_| near(&joints, 0.05)).collect();
+        let aim = near(&joints, 0.1);
+        Self::of(chains, &[None; TOOLS], [joints, history, aim])
+    }
+
+    /// The same, its goals behind tools.
+    fn aimed(&self, chains: &Chains, tools: &tools::Tools) -> Self {
+        let blocks = [&self.joints, &self.history, &self.aim];
+        Self::of(chains, tools, blocks.map(Clone::clone))
+    }
+
+    fn of(chains: &Chains, tools: &tools::Tools, blocks: [Vec<f64>; 3]) -> Self {
+        let [joints, history, aim] = blocks;
+        let ends = tools::ends(&chains.robot, tools, &aim);
         let goals: Vec<f64> = ends
             .chunks_exact(7)
             .flat_map(|end| [end, &TOLERANCES].concat())
             .collect();
-        let mut state = Self {
+        Self {
             vars: sheet::lent(chains.robot.clone(), &goals, &history),
+            goals_bytes: of_floats(&goals).to_vec(),
+            history_bytes: of_floats(&history).to_vec(),
+            joints_bytes: of_floats(&joints).to_vec(),
             joints,
-            goals_bytes: Vec::new(),
-            history_bytes: Vec::new(),
-            joints_bytes: Vec::new(),
-        };
-        put_floats(&goals, &mut state.goals_bytes);
-        put_floats(&history, &mut state.history_bytes);
-        put_floats(&state.joints, &mut state.joints_bytes);
-        state
+            history,
+            aim,
+        }
     }
 
-    fn given<'a>(&'a self, chains: &'a Chains, weights: &'a [f64]) -> Given<'a> {
+    /// Without weights and tools.
+    fn given<'a>(&'a self, chains: &'a Chains) -> Given<'a> {
         Given {
             sheet: chains.sheet(),
             goals: &self.goals_bytes,
             history: &self.history_bytes,
-            weights: of_floats(weights),
+            weights: &[],
+            tools: NO_TOOLS,
         }
     }
 }
@@ -158,16 +174,16 @@ pub fn rows(rows: &mut Rows, draw: &mut Draw, label: &str, chains: &Chains) {
     rows.row(
         &format!("objective, {label}"),
         &states,
-        |state| value(&mut lists.borrow_mut(), state.given(chains, &[]), state),
+        |state| value(&mut lists.borrow_mut(), state.given(chains), state),
         |state| master.call(&state.joints, &state.vars),
     );
     rows.row(
         &format!("gradient, {label}"),
         &states,
-        |state| two_blocks(weighted::gradient, &mut lists.borrow_mut(), state, chains),
+        |state| two_blocks(tooled::gradient, &mut lists.borrow_mut(), state, chains),
         |state| shown(master.gradient(&state.joints, &state.vars)),
     );
-    let coarse = weighted::gradient_finite_diff;
+    let coarse = tooled::gradient_finite_diff;
     rows.row(
         &format!("gradient_finite_diff, {label}"),
         &states,
@@ -178,35 +194,69 @@ pub fn rows(rows: &mut Rows, draw: &mut Draw, label: &str, chains: &Chains) {
     rows.row(
         &format!("gradient_one_block, {label}"),
         &states,
-        |state| one_block(&mut lists.borrow_mut(), state.given(chains, &[]), state),
+        |state| one_block(&mut lists.borrow_mut(), state.given(chains), state),
         |state| shown(master.gradient(&state.joints, &state.vars)),
     );
-    if all_take_weights() {
-        own_weights(rows, label, chains, &states, &lists);
+    // The published list of priors with the weights set.
+    let weighted = Second {
+        words: WITH_WEIGHTS,
+        master: weights::master(&chains.robot.chain_lengths, &OWN),
+        weights: &OWN,
+        tools: NO_TOOLS,
+    };
+    weighted.rows(rows, label, chains, &states, &lists);
+    if all_take_tools() {
+        let (own, lent) = chains.tools();
+        let at_tips = Second {
+            words: WITH_TOOLS,
+            master: tools::with_tools(master, &own),
+            weights: &[],
+            tools: lent,
+        };
+        let states: Vec<State> = states.iter().map(|s| s.aimed(chains, &own)).collect();
+        at_tips.rows(rows, label, chains, &states, &lists);
     }
 }
 
-/// The same with weights lent, beside the published list of priors with them set.
-fn own_weights(
-    rows: &mut Rows,
-    label: &str,
-    chains: &Chains,
-    states: &[State],
-    lists: &RefCell<Lists>,
-) {
-    let master = weights::master(&chains.robot.chain_lengths, &OWN);
-    rows.row(
-        &format!("objective{WITH_WEIGHTS}, {label}"),
-        states,
-        |state| value(&mut lists.borrow_mut(), state.given(chains, &OWN), state),
-        |state| master.call(&state.joints, &state.vars),
-    );
-    rows.row(
-        &format!("gradient_one_block{WITH_WEIGHTS}, {label}"),
-        states,
-        |state| one_block(&mut lists.borrow_mut(), state.given(chains, &OWN), state),
-        |state| shown(master.gradient(&state.joints, &state.vars)),
-    );
+/// The same with weights or tools lent, beside a master that has them.
+struct Second<'a> {
+    words: &'a str,
+    master: ObjectiveMaster,
+    weights: &'a [f64],
+    tools: Tools<'a>,
+}
+
+impl Second<'_> {
+    fn given<'a>(&'a self, state: &'a State, chains: &'a Chains) -> Given<'a> {
+        Given {
+            weights: of_floats(self.weights),
+            tools: self.tools,
+            ..state.given(chains)
+        }
+    }
+
+    fn rows(
+        &self,
+        rows: &mut Rows,
+        label: &str,
+        chains: &Chains,
+        states: &[State],
+        lists: &RefCell<Lists>,
+    ) {
+        let Self { words, master, .. } = self;
+        rows.row(
+            &format!("objective{words}, {label}"),
+            states,
+            |state| value(&mut lists.borrow_mut(), self.given(state, chains), state),
+            |state| master.call(&state.joints, &state.vars),
+        );
+        rows.row(
+            &format!("gradient_one_block{words}, {label}"),
+            states,
+            |state| one_block(&mut lists.borrow_mut(), self.given(state, chains), state),
+            |state| shown(master.gradient(&state.joints, &state.vars)),
+        );
+    }
 }
 
 /// Nothing published looks at weights: the other side is the plain reading of
@@ -227,13 +277,13 @@ pub fn setting(rows: &mut Rows, draw: &mut Draw) {
 
 fn value(lists: &mut Lists, given: Given, state: &State) -> f64 {
     let value = &mut lists.value;
-    let answer = weighted::objective(given, &state.joints_bytes, value);
+    let answer = tooled::objective(given, &state.joints_bytes, value);
     assert_eq!(answer, refusals::ACCEPTED);
     first(value)
 }
 
 fn two_blocks(call: TwoBlocks, lists: &mut Lists, state: &State, chains: &Chains) -> f64 {
-    let (scratch, given) = (&mut lists.scratch, state.given(chains, &[]));
+    let (scratch, given) = (&mut lists.scratch, state.given(chains));
     let (value, slopes) = (&mut lists.value, &mut lists.slopes);
     let answer = call(given, &state.joints_bytes, scratch, value, slopes);
     shown_bytes(answer, value, slopes)
@@ -246,6 +296,6 @@ fn one_block(lists: &mut Lists, given: Given, state: &State) -> f64 {
         poses: &mut lists.record_poses,
     };
     let (value, slopes) = (&mut lists.value, &mut lists.slopes);
-    let answer = weighted::gradient_one_block(given, &state.joints_bytes, value, slopes, record);
+    let answer = tooled::gradient_one_block(given, &state.joints_bytes, value, slopes, record);
     shown_bytes(answer, value, slopes)
 }

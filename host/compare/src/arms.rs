@@ -1,13 +1,13 @@
-//! The byte calls on arms and weights by name, and how each call is compared: its edges and
-//! its draws.
+//! The byte calls on arms, weights and tools by name, and how each call is
+//! compared: its edges and its draws.
 
 use crate::calls::{exact, fitted, Call};
 use crate::run::Run;
 use crate::sheets::{damages, Damage, Fit, List, Lists, Shape, CODES};
 use crate::source::{Source, READ, WEIGHTS, WRITTEN};
-use crate::target::{Target, ARMS, SETTING, SIZING};
+use crate::target::{Target, ARMS, SETTING, SET_TOOL, SIZING};
 use crate::trial::Trial;
-use crate::weights;
+use crate::{tools, weights};
 
 pub fn targets() -> Vec<Target> {
     let arms = |name, about, kinds, run| Target::new(name, about, ARMS, kinds, run);
@@ -25,6 +25,9 @@ pub fn targets() -> Vec<Target> {
         }),
         Target::new("set_weights", "setting weights", SETTING, WEIGHTS, |run| {
             all(run, Call::SetWeights)
+        }),
+        Target::new("set_tool", "setting a tool", SET_TOOL, READ, |run| {
+            all(run, Call::SetTool)
         }),
         arms("frames", "positions and rotations", WRITTEN, |run| {
             all(run, Call::Frames)
@@ -52,6 +55,10 @@ pub fn all(run: &mut Run, call: Call) {
         every_fault(run, &mut trial);
         if call.read().contains(&List::Weights) {
             weights::edges(run, &mut trial);
+        }
+        let tools = [List::Tool, List::Tool0];
+        if tools.iter().any(|list| call.read().contains(list)) {
+            tools::edges(run, &mut trial);
         }
     }
     let mut source = Source::new(call, run.kind);

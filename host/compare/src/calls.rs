@@ -15,6 +15,7 @@ pub enum Call {
     Sizing,
     SetGoals,
     SetWeights,
+    SetTool,
     Frames,
     Pose,
     Manipulability,
@@ -27,11 +28,12 @@ pub enum Call {
 }
 
 impl Call {
-    pub const ALL: [Self; 13] = [
+    pub const ALL: [Self; 14] = [
         Self::Load,
         Self::Sizing,
         Self::SetGoals,
         Self::SetWeights,
+        Self::SetTool,
         Self::Frames,
         Self::Pose,
         Self::Manipulability,
@@ -49,6 +51,7 @@ impl Call {
             Self::Sizing => "sizing",
             Self::SetGoals => "set_goals",
             Self::SetWeights => "set_weights",
+            Self::SetTool => "set_tool",
             Self::Frames => "frames",
             Self::Pose => "pose",
             Self::Manipulability => "manipulability",
@@ -64,15 +67,23 @@ impl Call {
     /// The lists it reads, the sheet's four first, but for sizing, which has no
     /// limits, and for setting weights, which has no sheet.
     pub fn read(self) -> &'static [List] {
-        use List::{Codes, Floats, Goals, History, Joints, Limits, Sizes, Weights};
+        use List::{
+            Chain, Codes, Floats, Goals, History, Joints, Limits, Sizes, Tool, Tool0, Tool1, Tool2,
+            Tool3, Weights,
+        };
         match self {
             Call::Load => &[Sizes, Codes, Floats, Limits],
             Call::Sizing => &[Sizes, Codes, Floats],
             Call::SetGoals => &[Sizes, Codes, Floats, Limits, Goals],
             Call::SetWeights => &[Weights],
+            Call::SetTool => &[Sizes, Codes, Floats, Limits, Tool, Chain],
+            Call::Pose | Call::Reset => &[
+                Sizes, Codes, Floats, Limits, Tool0, Tool1, Tool2, Tool3, Joints,
+            ],
             Call::Update => &[Sizes, Codes, Floats, Limits, History, Joints],
             _ if self.aims() => &[
-                Sizes, Codes, Floats, Limits, Goals, History, Weights, Joints,
+                Sizes, Codes, Floats, Limits, Goals, History, Weights, Tool0, Tool1, Tool2, Tool3,
+                Joints,
             ],
             _ => &[Sizes, Codes, Floats, Limits, Joints],
         }
@@ -112,7 +123,7 @@ impl Call {
         let (chains, links, joints) = (lists.chains, lists.links, lists.joints);
         let walked = lists.walked;
         match self {
-            Call::Load | Call::SetGoals | Call::SetWeights => vec![],
+            Call::Load | Call::SetGoals | Call::SetWeights | Call::SetTool => vec![],
             Call::Sizing => vec![PLAN],
             Call::Frames => vec![3 * (links + chains), 4 * (links + 2 * chains)],
             Call::Pose => vec![7 * chains],
@@ -159,21 +170,27 @@ impl Call {
             (Call::Frames, [joints], [positions, rotations]) => {
                 bytes::frames(sheet, joints, positions, rotations)
             }
-            (Call::Pose, [joints], [ends]) => bytes::pose(sheet, joints, ends),
+            (Call::SetTool, [tool, chain], []) => bytes::set_tool(sheet, tool, number(chain)),
+            (Call::Pose, [tools @ .., joints], [ends]) => {
+                bytes::pose(sheet, by_chain(tools), joints, ends)
+            }
             (Call::Manipulability, [joints], [value]) => {
                 bytes::manipulability(sheet, joints, value)
             }
-            (Call::Reset, [joints], [history, ends]) => bytes::reset(sheet, joints, history, ends),
+            (Call::Reset, [tools @ .., joints], [history, ends]) => {
+                bytes::reset(sheet, by_chain(tools), joints, history, ends)
+            }
             (Call::Update, [history, joints], [renewed]) => {
                 bytes::update(sheet, history, joints, renewed)
             }
             #[cfg(feature = "objective")]
-            (_, [goals, history, weights, joints], write) => {
+            (_, [goals, history, weights, tools @ .., joints], write) => {
                 let given = bytes::Given {
                     sheet,
                     goals,
                     history,
                     weights,
+                    tools: by_chain(tools),
                 };
                 self.ask_given(given, joints, write)
             }
@@ -202,6 +219,21 @@ impl Call {
             _ => panic!("lists that do not belong to {self:?}"),
         }
     }
+}
+
+/// The tools that a call is lent.
+fn by_chain<'a>(lists: &[&'a [u8]]) -> bytes::Tools<'a> {
+    lists.try_into().expect("a list for each chain")
+}
+
+/// A number that is lent as such; a list of its bytes stands for it here, and what
+/// is missing of four is 0.
+pub fn number(bytes: &[u8]) -> u32 {
+    let mut four = [0; 4];
+    four.iter_mut()
+        .zip(bytes)
+        .for_each(|(to, from)| *to = *from);
+    u32::from_le_bytes(four)
 }
 
 pub fn exact(call: Call, lists: &Lists) -> Vec<usize> {

@@ -1,14 +1,15 @@
 //! A case on which a call differs, as a sheet that `sonde` reads: the lists in
 //! its lines, and in its comments both answers and what no line can hold.
 
-use crate::calls::Call;
+use crate::calls::{number, Call};
 use crate::judge::Written;
 use crate::run::with_bits;
-use crate::sheets::List;
+use crate::sheets::{List, TOOL_LISTS};
 use crate::tally::Shown;
 use reference::refusals::{f64s, u16s, BLOCKS};
 use reference::sheet::{END_FLOATS, GOAL_FLOATS, LINK_FLOATS};
 use sheet_text::{Text, PARTS};
+use std::collections::BTreeMap;
 
 /// What was lent to a call, answered and left.
 pub struct Found<'a> {
@@ -122,9 +123,18 @@ pub fn sheet(text: &mut Text, names: &[List], lists: &[&[u8]]) {
         [sizes, codes, floats, ..] => Chains::of([sizes, codes, floats]),
         _ => None,
     };
+    let tools = match &chains {
+        Some(chains) => chains.tools(names, lists),
+        None => Tools::new(),
+    };
     for (name, bytes) in both() {
         let held = match name {
             List::Sizes | List::Codes | List::Floats => chains.is_some(),
+            List::Tool => tools.values().any(|(list, _)| *list == name),
+            List::Chain => false,
+            _ if TOOL_LISTS.contains(&name) => {
+                bytes.is_empty() || tools.values().any(|(list, _)| *list == name)
+            }
             _ => bytes.len() % 8 == 0,
         };
         if !held {
@@ -134,7 +144,7 @@ pub fn sheet(text: &mut Text, names: &[List], lists: &[&[u8]]) {
     }
     text.start();
     if let Some(chains) = chains {
-        chains.write(text);
+        chains.write(text, &tools);
     }
     for (name, bytes) in both().filter(|(_, bytes)| bytes.len() % 8 == 0) {
         // A sheet without the line is lent none; to set none is another thing.
@@ -144,6 +154,9 @@ pub fn sheet(text: &mut Text, names: &[List], lists: &[&[u8]]) {
         }
     }
 }
+
+/// By chain, each with the list that it is of.
+type Tools = BTreeMap<usize, (List, Vec<f64>)>;
 
 /// Sizes, codes and floats that the lines of a sheet can hold.
 struct Chains {
@@ -171,13 +184,41 @@ impl Chains {
         (!ragged && fits && !floating).then_some(chains)
     }
 
-    fn write(&self, text: &mut Text) {
+    /// The tools that a line of a chain can hold, by chain: whole floats, and no line
+    /// where none is lent. One that is to be set is on its chain, empty or not.
+    fn tools(&self, names: &[List], lists: &[&[u8]]) -> Tools {
+        let mut tools = Tools::new();
+        let list = |name: List| {
+            let mut both = names.iter().zip(lists);
+            both.find(|(own, _)| **own == name).map(|(_, bytes)| *bytes)
+        };
+        let mut add = |at: usize, name: List, bytes: &[u8]| {
+            let mut floats = Vec::new();
+            if at + 1 < self.sizes.len() && !f64s(bytes, &mut floats).ragged {
+                tools.insert(at, (name, floats));
+            }
+        };
+        for (at, name) in TOOL_LISTS.into_iter().enumerate() {
+            if let Some(bytes) = list(name).filter(|bytes| !bytes.is_empty()) {
+                add(at, name, bytes);
+            }
+        }
+        if let (Some(bytes), Some(chain)) = (list(List::Tool), list(List::Chain)) {
+            add(number(chain) as usize, List::Tool, bytes);
+        }
+        tools
+    }
+
+    fn write(&self, text: &mut Text, tools: &Tools) {
         let mut at = 0;
         for (number, &links) in self.sizes[1..].iter().enumerate() {
             text.chain(&chain(number));
             for _ in 0..links {
                 text.link(self.codes[at], self.link(at));
                 at += 1;
+            }
+            if let Some((_, tool)) = tools.get(&number) {
+                text.tool(tool);
             }
         }
     }
@@ -210,7 +251,8 @@ fn rows(text: &mut Text, name: List, bytes: &[u8]) {
         List::History if count % BLOCKS == 0 => ("history", count / BLOCKS),
         List::History => ("history", count),
         List::Goals => ("goal", GOAL_FLOATS),
-        List::Sizes | List::Codes | List::Floats => return,
+        // In the lines of their chains, or in comments.
+        _ => return,
     };
     if numbers.is_empty() {
         text.numbers(word, &[]);

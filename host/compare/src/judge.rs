@@ -1,14 +1,15 @@
 //! The reference's answers to the byte calls.
 
-use crate::calls::Call;
-use crate::sheets::List as Name;
+use crate::calls::{number, Call};
+use crate::sheets::{List as Name, TOOL_LISTS};
 use reference::groove::objective_master::ObjectiveMaster;
 use reference::groove::vars::RelaxedIKVars;
 use reference::record::record;
 use reference::refusals::{self, f64s, u16s, Given, List, RecordRoom, Room, Sheet};
 use reference::sheet;
 use reference::sizing;
-use reference::weights::Weighted;
+use reference::tools::{self, Tools, TOOLS};
+use reference::weights::{self, Weighted};
 use relaxed_ik::bytes::{put_floats, put_u16s};
 
 /// What a call writes to one of its outputs.
@@ -64,6 +65,8 @@ struct Decoded {
     goals: Vec<f64>,
     history: Vec<f64>,
     weights: Vec<f64>,
+    tools: [Vec<f64>; TOOLS],
+    tool: Vec<f64>,
     joints: Vec<f64>,
 }
 
@@ -71,6 +74,8 @@ struct Decoded {
 struct Lent<'a> {
     given: Given<'a>,
     joints: List<'a, f64>,
+    /// To be set, on the chain of this number.
+    tool: (List<'a, f64>, u32),
 }
 
 impl Decoded {
@@ -79,6 +84,14 @@ impl Decoded {
             let mut lent = call.read().iter().zip(read);
             lent.find(|(own, _)| **own == name)
                 .map_or(&[][..], |(_, bytes)| bytes)
+        };
+        let mut tools = [List::NONE; TOOLS];
+        for ((tool, name), floats) in tools.iter_mut().zip(TOOL_LISTS).zip(&mut self.tools) {
+            *tool = f64s(list(name), floats);
+        }
+        let chain = match call {
+            Call::SetTool => number(list(Name::Chain)),
+            _ => 0,
         };
         Lent {
             given: Given {
@@ -91,8 +104,10 @@ impl Decoded {
                 goals: f64s(list(Name::Goals), &mut self.goals),
                 history: f64s(list(Name::History), &mut self.history),
                 weights: f64s(list(Name::Weights), &mut self.weights),
+                tools,
             },
             joints: f64s(list(Name::Joints), &mut self.joints),
+            tool: (f64s(list(Name::Tool), &mut self.tool), chain),
         }
     }
 }
@@ -101,7 +116,7 @@ impl Lent<'_> {
     /// 0 or the number of the refusal, for outputs of so many bytes.
     fn number(&self, call: Call, rooms: &[usize]) -> u32 {
         let (given, joints) = (&self.given, self.joints);
-        let sheet = &given.sheet;
+        let (sheet, tools) = (&given.sheet, &given.tools);
         let room = |at: usize| match call.unit(at) {
             2 => Room::of_u16_bytes(rooms[at]),
             _ => Room::of_bytes(rooms[at]),
@@ -111,10 +126,11 @@ impl Lent<'_> {
             Call::Sizing => refusals::sizing(sheet, room(0)),
             Call::SetGoals => refusals::set_goals(sheet, given.goals),
             Call::SetWeights => refusals::set_weights(given.weights),
+            Call::SetTool => refusals::set_tool(sheet, self.tool.0, self.tool.1),
             Call::Frames => refusals::frames(sheet, joints, room(0), room(1)),
-            Call::Pose => refusals::pose(sheet, joints, room(0)),
+            Call::Pose => refusals::pose(sheet, tools, joints, room(0)),
             Call::Manipulability => refusals::manipulability(sheet, joints, room(0)),
-            Call::Reset => refusals::reset(sheet, joints, room(0), room(1)),
+            Call::Reset => refusals::reset(sheet, tools, joints, room(0), room(1)),
             Call::Update => refusals::update(sheet, given.history, joints, room(0)),
             Call::Objective => refusals::objective(given, joints, room(0)),
             Call::Gradient | Call::GradientFiniteDiff => {
@@ -129,6 +145,10 @@ impl Lent<'_> {
                 refusals::gradient_one_block(given, joints, room(0), room(1), record)
             }
         }
+    }
+
+    fn tools(&self) -> Tools {
+        tools::tools(&self.given.tools.map(|tool| tool.numbers))
     }
 
     /// What sizing writes. The arms kept have the limits of some sheet, so it has
@@ -187,15 +207,15 @@ impl Made {
     fn written(&mut self, call: Call, lent: &Lent) -> Vec<Written> {
         let (vars, joints) = (&mut self.vars, lent.joints.numbers);
         let floats = match call {
-            Call::Load | Call::SetGoals | Call::SetWeights => Vec::new(),
+            Call::Load | Call::SetGoals | Call::SetWeights | Call::SetTool => Vec::new(),
             Call::Frames => {
                 let (positions, rotations) = sheet::frames(&vars.robot, joints);
                 vec![positions, rotations]
             }
-            Call::Pose => vec![sheet::ends(&vars.robot, joints)],
+            Call::Pose => vec![tools::ends(&vars.robot, &lent.tools(), joints)],
             Call::Manipulability => vec![vec![vars.robot.get_manipulability_immutable(joints)]],
             Call::Reset => {
-                vars.reset(joints.to_vec());
+                tools::reset(vars, &lent.tools(), joints);
                 vec![sheet::history(vars), sheet::start_ends(vars)]
             }
             Call::Update => {
@@ -206,13 +226,25 @@ impl Made {
             _ => {
                 sheet::set_goals(vars, lent.given.goals.numbers);
                 sheet::set_history(vars, lent.given.history.numbers);
-                let lengths = &vars.robot.chain_lengths;
-                let own = self.master.get_or_insert_with(|| Weighted::new(lengths));
-                own.set(lent.given.weights.numbers);
-                return aimed(call, &own.master, vars, joints);
+                return self.aimed(call, lent);
             }
         };
         floats.into_iter().map(Floats).collect()
+    }
+
+    /// What the calls on goals and history write, by the master that has the weights
+    /// and tools which they are lent.
+    fn aimed(&mut self, call: Call, lent: &Lent) -> Vec<Written> {
+        let (vars, joints) = (&self.vars, lent.joints.numbers);
+        let (weights, tools) = (lent.given.weights.numbers, lent.tools());
+        let lengths = &vars.robot.chain_lengths;
+        if tools.iter().any(Option::is_some) {
+            let master = tools::with_tools(weights::master(lengths, weights), &tools);
+            return aimed(call, &master, vars, joints);
+        }
+        let own = self.master.get_or_insert_with(|| Weighted::new(lengths));
+        own.set(weights);
+        aimed(call, &own.master, vars, joints)
     }
 }
 

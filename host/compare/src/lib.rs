@@ -26,6 +26,7 @@ pub mod source;
 mod state;
 mod tally;
 pub mod target;
+mod tools;
 mod trial;
 pub mod weights;
 

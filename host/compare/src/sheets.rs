@@ -1,11 +1,12 @@
 //! Lists for the byte calls: sheets that document 01 takes, with joints,
-//! histories, goals and weights, and the ways to spoil them.
+//! histories, goals, weights and tools, and the ways to spoil them.
 
 use crate::draw::kind::Kind;
 use crate::draw::Draw;
-use crate::weights;
+use crate::{tools, weights};
 use reference::refusals::{self, f64s, u16s};
 use reference::sheet;
+use reference::tools::{ends, Tool as Mounted, TOOLS, TOOL_FLOATS};
 use relaxed_ik::bytes::{put_floats, put_u16s};
 
 /// The lists that are read, in the order of the byte calls.
@@ -18,19 +19,35 @@ pub enum List {
     Goals,
     History,
     Weights,
+    Tool0,
+    Tool1,
+    Tool2,
+    Tool3,
     Joints,
+    /// That is set.
+    Tool,
+    /// The number of the chain on which it is: no list of the call, but four bytes
+    /// that stand for it here.
+    Chain,
 }
 
-use List::{Codes, Floats, Goals, History, Joints, Limits, Sizes, Weights};
+use List::{
+    Chain, Codes, Floats, Goals, History, Joints, Limits, Sizes, Tool, Tool0, Tool1, Tool2, Tool3,
+    Weights,
+};
 
 /// How many there are.
-const LISTS: usize = Joints as usize + 1;
+const LISTS: usize = Chain as usize + 1;
+/// Those of the tools that are lent, by chain.
+pub const TOOL_LISTS: [List; TOOLS] = [Tool0, Tool1, Tool2, Tool3];
 
 /// Fixed, then revolute, continuous and prismatic about every axis.
 pub const CODES: [u16; 22] = [
     0, 10, 11, 12, 13, 14, 15, 16, 20, 21, 22, 23, 24, 25, 26, 30, 31, 32, 33, 34, 35, 36,
 ];
 const UNLISTED: [u16; 13] = [37, 9, 40, 65535, 1, 6, 7, 17, 19, 27, 29, 39, 256];
+/// How far links and tools go, but for some.
+const REACHES: [f64; 5] = [10.0, 2.0, 1.0, 0.5, 0.2];
 const IDENTITY: [f64; 4] = [1.0, 0.0, 0.0, 0.0];
 
 /// The codes of each chain's links.
@@ -93,7 +110,7 @@ impl Lists {
     /// A sheet of this shape, its numbers drawn. Goals, history and joints are
     /// left empty.
     pub fn of(shape: &Shape, draw: &mut Draw) -> Self {
-        let reach = draw.pick(&[10.0, 2.0, 1.0, 0.5, 0.2]);
+        let reach = draw.pick(&REACHES);
         Self::with(shape, draw, |draw| link(draw, reach), limits)
     }
 
@@ -141,30 +158,61 @@ impl Lists {
         lists
     }
 
-    /// Draws these anew: goals, history, weights, joints. A call that works with
-    /// weights is lent none as often as some; the one that sets them has some.
+    /// Draws these anew: goals, history, weights, tools, joints. A call that works
+    /// with weights or tools is lent none as often as some; those that set them have
+    /// some.
     pub fn renew(&mut self, lists: &[List], draw: &mut Draw) {
+        let lent = lists.contains(&Joints);
+        let mounted = lists.contains(&Tool0) && draw.word() % 2 == 0;
         for &list in lists {
-            if list == Weights {
-                let some = !lists.contains(&Joints) || draw.word() % 2 == 0;
-                let drawn = some.then(|| weights::drawn(draw));
-                self.set_floats(Weights, drawn.as_ref().map_or(&[], |list| list));
-                continue;
+            match list {
+                Weights => {
+                    let some = !lent || draw.word() % 2 == 0;
+                    let drawn = some.then(|| weights::drawn(draw));
+                    self.set_floats(list, drawn.as_ref().map_or(&[], |list| list));
+                }
+                Tool => self.set_floats(list, &self.tool(draw)),
+                Chain => {
+                    let chain = draw.below(self.chains.max(1)) as u32;
+                    self.set(list, &chain.to_le_bytes());
+                }
+                Tool0 | Tool1 | Tool2 | Tool3 => {
+                    let loaded = (list as usize) < Tool0 as usize + self.chains;
+                    let some = mounted && loaded && draw.word() % 4 != 0;
+                    let drawn = some.then(|| self.tool(draw));
+                    self.set_floats(list, drawn.as_ref().map_or(&[], |list| list));
+                }
+                _ => self.renew_block(list, draw),
             }
-            let bytes = &mut self.bytes[list as usize];
-            bytes.clear();
-            if list == Goals {
-                (0..self.chains).for_each(|_| push(bytes, &goal(draw)));
-                continue;
-            }
-            let blocks = if list == History { 4 } else { 1 };
-            for _ in 0..blocks * self.joints {
-                let value = if self.still && draw.word() % 8 != 0 {
-                    zero(draw)
-                } else {
-                    joint(draw)
-                };
-                push(bytes, &[value]);
+        }
+    }
+
+    /// Goals, history or joints.
+    fn renew_block(&mut self, list: List, draw: &mut Draw) {
+        let bytes = &mut self.bytes[list as usize];
+        bytes.clear();
+        if list == Goals {
+            (0..self.chains).for_each(|_| push(bytes, &goal(draw)));
+            return;
+        }
+        let blocks = if list == History { 4 } else { 1 };
+        for _ in 0..blocks * self.joints {
+            let value = if self.still && draw.word() % 8 != 0 {
+                zero(draw)
+            } else {
+                joint(draw)
+            };
+            push(bytes, &[value]);
+        }
+    }
+
+    /// A tool that is taken.
+    fn tool(&self, draw: &mut Draw) -> [f64; TOOL_FLOATS] {
+        match self.still {
+            true => still_link(draw),
+            false => {
+                let reach = draw.pick(&REACHES);
+                link(draw, reach)
             }
         }
     }
@@ -203,7 +251,12 @@ impl Lists {
             0 => joints,
             _ => beside(draw, &joints, 0.1),
         };
-        let ends = sheet::ends(&robot, &at);
+        let tools = TOOL_LISTS.map(|list| {
+            let mut floats = Vec::new();
+            f64s(self.get(list), &mut floats);
+            Mounted::of(&floats)
+        });
+        let ends = ends(&robot, &tools, &at);
         for (goal, end) in goals.chunks_exact_mut(13).zip(ends.chunks_exact(7)) {
             if draw.word() % 4 != 0 {
                 goal[..7].copy_from_slice(&near_goal(draw, end));
@@ -234,11 +287,12 @@ impl Lists {
     }
 
     pub fn spoil(&mut self, damage: Damage, draw: &mut Draw) {
-        if damage.is_of_weights() && self.get(Weights).is_empty() {
+        if damage.list() == Some(Weights) && self.get(Weights).is_empty() {
             self.set_floats(Weights, &weights::drawn(draw));
         }
         match damage {
             Damage::Length(list, change) => {
+                let list = self.spoilt(list, draw);
                 let unit = if matches!(list, Sizes | Codes) { 2 } else { 8 };
                 change.apply(&mut self.bytes[list as usize], unit, draw);
             }
@@ -250,14 +304,19 @@ impl Lists {
                 let at = 1 + draw.below(self.chains.max(1));
                 self.put_u16(Sizes, at, count);
             }
-            Damage::Displacement(value) => {
-                self.spoil_row(Floats, 7, draw, |draw| (draw.below(3), vec![value]))
+            Damage::Displacement(list, value) => {
+                self.spoil_row(list, 7, draw, |draw| (draw.below(3), vec![value]))
             }
-            Damage::Offset(edge) => {
-                self.spoil_row(Floats, 7, draw, |draw| (3, turn(draw, edge).to_vec()))
+            Damage::Offset(list, edge) => {
+                self.spoil_row(list, 7, draw, |draw| (3, turn(draw, edge).to_vec()))
             }
-            Damage::OffsetPart(value) => {
-                self.spoil_row(Floats, 7, draw, |draw| (3 + draw.below(4), vec![value]))
+            Damage::OffsetPart(list, value) => {
+                self.spoil_row(list, 7, draw, |draw| (3 + draw.below(4), vec![value]))
+            }
+            Damage::Unloaded(bytes) => self.spoil_unloaded(bytes, draw),
+            Damage::Unnumbered(chain) => {
+                let chain = chain.max(self.chains as u32);
+                self.set(Chain, &chain.to_le_bytes());
             }
             Damage::Pair(lower, upper) => {
                 self.spoil_row(Limits, 2, draw, |_| (0, vec![lower, upper]))
@@ -276,6 +335,35 @@ impl Lists {
         }
     }
 
+    /// The list that is meant: of the tools that are lent that of a drawn chain, which
+    /// gets a tool if it has none.
+    fn spoilt(&mut self, list: List, draw: &mut Draw) -> List {
+        if list != Tool0 {
+            return list;
+        }
+        let list = TOOL_LISTS[draw.below(self.chains.clamp(1, TOOLS))];
+        if self.get(list).is_empty() {
+            self.set_floats(list, &self.tool(draw));
+        }
+        list
+    }
+
+    /// Lends so many bytes of a tool for a chain that is not loaded; where all are,
+    /// the last one's tool is too long by that.
+    fn spoil_unloaded(&mut self, bytes: usize, draw: &mut Draw) {
+        let at = match self.chains {
+            chains @ 0..TOOLS => chains + draw.below(TOOLS - chains),
+            _ => TOOLS - 1,
+        };
+        let mut tool = Vec::new();
+        push(&mut tool, &self.tool(draw));
+        let list = &mut self.bytes[TOOL_LISTS[at] as usize];
+        if at < self.chains && list.is_empty() {
+            list.extend(&tool);
+        }
+        list.extend(&tool[..bytes]);
+    }
+
     /// Puts these in the place of codes that are drawn.
     fn spoil_codes(&mut self, codes: &[u16], draw: &mut Draw) {
         let first = draw.below(self.bytes[Codes as usize].len() / 2 + 1);
@@ -292,6 +380,7 @@ impl Lists {
         draw: &mut Draw,
         wrong: impl FnOnce(&mut Draw) -> (usize, Vec<f64>),
     ) {
+        let list = self.spoilt(list, draw);
         let at = self.place(list, width, draw);
         let (part, floats) = wrong(draw);
         self.put(list, at + part, &floats);
@@ -370,19 +459,36 @@ pub enum Damage {
     Fixed,
     Chains(u16),
     Links(u16),
-    Displacement(f64),
-    Offset(Edge),
-    OffsetPart(f64),
+    /// Of a link or of a tool.
+    Displacement(List, f64),
+    Offset(List, Edge),
+    OffsetPart(List, f64),
     Pair(f64, f64),
     Narrow(Edge),
     Value(List, f64),
     GoalPart(f64),
     GoalTurn(Edge),
+    /// So many bytes of a tool for a chain that is not loaded.
+    Unloaded(usize),
+    /// This chain, or the first one that is not loaded.
+    Unnumbered(u32),
 }
 
 impl Damage {
-    pub fn is_of_weights(self) -> bool {
-        matches!(self, Self::Length(Weights, _) | Self::Value(Weights, _))
+    /// The list that it is done to, if that is one for all of its kind.
+    fn list(self) -> Option<List> {
+        match self {
+            Self::Length(list, _) | Self::Value(list, _) => Some(list),
+            Self::Displacement(list, _) | Self::Offset(list, _) => Some(list),
+            Self::OffsetPart(list, _) => Some(list),
+            Self::Unloaded(_) => Some(Tool0),
+            _ => None,
+        }
+    }
+
+    /// Whether its number comes after that of the outputs.
+    pub fn is_late(self) -> bool {
+        matches!(self.list(), Some(Weights | Tool0))
     }
 }
 
@@ -434,9 +540,14 @@ const SIDES: [(Kind, Edge); 2] = [(Kind::Border, Edge::JustIn), (Kind::Outside, 
 pub fn damages(read: &[List]) -> Vec<(Kind, Damage)> {
     let mut all = Vec::new();
     for &list in read {
+        // The tools of all chains are spoilt in the first one's name.
+        if matches!(list, Tool1 | Tool2 | Tool3 | Chain) {
+            continue;
+        }
         let kind = |change: Change| match (list, change) {
-            // None loaded: taken, but by the call that sets them.
+            // None loaded: taken, but by the calls that set them.
             (Weights, Change::Empty) if read.len() > 1 => Kind::Border,
+            (Tool0, Change::Empty) => Kind::Border,
             _ => change.kind(),
         };
         all.extend(Change::ALL.map(|change| (kind(change), Damage::Length(list, change))));
@@ -460,6 +571,7 @@ pub fn damages(read: &[List]) -> Vec<(Kind, Damage)> {
     if read.contains(&Weights) {
         all.extend(weights::damages());
     }
+    all.extend(tools::damages(read));
     all
 }
 
@@ -470,10 +582,18 @@ fn arm_damages() -> Vec<(Kind, Damage)> {
     all.push((Kind::Codes, Damage::Fixed));
     all.extend([0, 1, 2, 3, 4, 5, 65535].map(|count| (Kind::Counts, Damage::Chains(count))));
     all.extend([0, 1, 16, 17, 65535].map(|count| (Kind::Counts, Damage::Links(count))));
-    all.extend(values(10.0).map(|(kind, v)| (kind, Damage::Displacement(v))));
-    all.extend(SIDES.map(|(kind, edge)| (kind, Damage::Offset(edge))));
-    all.extend([f64::NAN, f64::INFINITY].map(|v| (Kind::Nan, Damage::OffsetPart(v))));
-    all.extend([1e-4, 1.1].map(|v| (Kind::Outside, Damage::OffsetPart(v))));
+    all.extend(link_damages(Floats));
+    all
+}
+
+/// Those to a link, or to a tool, which is ranged as one.
+pub fn link_damages(list: List) -> Vec<(Kind, Damage)> {
+    let part = |kind: Kind| move |v: f64| (kind, Damage::OffsetPart(list, v));
+    let mut all = Vec::new();
+    all.extend(values(10.0).map(|(kind, v)| (kind, Damage::Displacement(list, v))));
+    all.extend(SIDES.map(|(kind, edge)| (kind, Damage::Offset(list, edge))));
+    all.extend([f64::NAN, f64::INFINITY].map(part(Kind::Nan)));
+    all.extend([1e-4, 1.1].map(part(Kind::Outside)));
     all
 }
 
@@ -1011,19 +1131,24 @@ mod tests {
     #[test]
     fn aimed_lists_are_taken() {
         let mut draw = Draw::new(2);
-        let (mut kinds, mut weighted) = ([0; 3], 0);
+        let (mut kinds, mut weighted, mut mounted) = ([0; 3], 0, [0; 3]);
         for _ in 0..5_000 {
             let shape = shape(&mut draw);
             let mut lists = match draw.word() % 4 {
                 0 => Lists::still(&shape, &mut draw),
                 _ => Lists::of(&shape, &mut draw),
             };
-            lists.renew(&[Goals, History, Weights, Joints], &mut draw);
+            let own = [Goals, History, Weights, Tool0, Tool1, Tool2, Tool3, Joints];
+            lists.renew(&own, &mut draw);
             lists.aim(&mut draw);
             let (mut sizes, mut codes) = (Vec::new(), Vec::new());
             let (mut floats, mut limits) = (Vec::new(), Vec::new());
             let (mut goals, mut history, mut joints) = (Vec::new(), Vec::new(), Vec::new());
             let mut weights = Vec::new();
+            let mut tools: [Vec<f64>; TOOLS] = Default::default();
+            for (list, floats) in TOOL_LISTS.into_iter().zip(&mut tools) {
+                f64s(lists.get(list), floats);
+            }
             let given = refusals::Given {
                 sheet: Sheet {
                     sizes: u16s(lists.get(Sizes), &mut sizes),
@@ -1034,11 +1159,15 @@ mod tests {
                 goals: f64s(lists.get(Goals), &mut goals),
                 history: f64s(lists.get(History), &mut history),
                 weights: f64s(lists.get(Weights), &mut weights),
+                tools: tools.each_ref().map(|tool| refusals::List::of(&tool[..])),
             };
             let joints = f64s(lists.get(Joints), &mut joints);
             let value = refusals::Room::of(1);
             assert_eq!(refusals::objective(&given, joints, value), 0, "{shape:?}");
             weighted += usize::from(!weights.is_empty());
+            // None, some or all of the chains have a tool.
+            let count = tools.iter().filter(|tool| !tool.is_empty()).count();
+            mounted[usize::from(count > 0) + usize::from(count == lists.chains)] += 1;
             for &t in goals.chunks_exact(13).flat_map(|goal| &goal[7..]) {
                 #[allow(clippy::approx_constant)]
                 let kind = usize::from(t > 0.01) + usize::from(t >= 3.14159260);
@@ -1047,6 +1176,7 @@ mod tests {
         }
         assert!(kinds.iter().all(|&met| met > 10_000), "{kinds:?}");
         assert!((2_000..3_000).contains(&weighted), "{weighted}");
+        assert!(mounted.iter().all(|&met| met > 500), "{mounted:?}");
     }
 
     #[test]

@@ -62,7 +62,7 @@ pub struct Source {
     call: Call,
     kind: Kind,
     /// Of the kind, or all of them for several at once; beside outputs those to
-    /// weights, whose number comes after that of the outputs.
+    /// weights and tools, whose numbers come after that of the outputs.
     damages: Vec<Damage>,
     base: Lists,
     left: usize,
@@ -74,7 +74,7 @@ impl Source {
         let mut damages = damages(call.read());
         damages.retain(|(of, damage)| match kind {
             Kind::Several => true,
-            Kind::Outputs => damage.is_of_weights(),
+            Kind::Outputs => damage.is_late(),
             _ => *of == kind,
         });
         Self {
@@ -213,6 +213,9 @@ mod tests {
             possible.extend(call.own().contains(&List::Goals).then_some(8));
             possible.extend((kinds(call).len() > READ.len()).then_some(9));
             possible.extend(call.own().contains(&List::Weights).then_some(10));
+            let tools = [List::Tool, List::Tool0];
+            let any = tools.iter().any(|list| call.own().contains(list));
+            possible.extend(any.then_some(11));
             // Slopes take their time.
             let cases = if call.aims() { 4_000 } else { 20_000 };
             let (answers, _) = drawn(call, cases);

@@ -289,6 +289,7 @@ mod tests {
         }
         let lists = sonde::text::parse(text.as_bytes()).unwrap().lists();
         let mut bytes = Vec::new();
+        let tools = || lists.tools.iter();
         match name {
             List::Sizes => put_u16s(&lists.sizes, &mut bytes),
             List::Codes => put_u16s(&lists.codes, &mut bytes),
@@ -298,6 +299,14 @@ mod tests {
             List::History => put_floats(&lists.history, &mut bytes),
             List::Weights => put_floats(&lists.weights, &mut bytes),
             List::Joints => put_floats(&lists.joints, &mut bytes),
+            // The one chain that has one.
+            List::Tool => put_floats(&lists.tools.concat(), &mut bytes),
+            List::Chain => panic!("in no line"),
+            _ => {
+                let at = name as usize - List::Tool0 as usize;
+                let none = Vec::new();
+                put_floats(tools().nth(at).unwrap_or(&none), &mut bytes);
+            }
         }
         bytes
     }
@@ -348,6 +357,7 @@ mod tests {
             (Call::Load, None),
             (Call::Sizing, None),
             (Call::SetWeights, None),
+            (Call::SetTool, None),
             (Call::Pose, Some("c0.x")),
             (Call::Manipulability, Some("manipulability")),
             (Call::Objective, Some("objective")),

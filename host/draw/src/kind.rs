@@ -78,7 +78,7 @@ pub const KINDS: [(Kind, &str, &str); 17] = [
     (
         Kind::Outputs,
         "outputs",
-        "an output of a wrong length, at times with wrong weights",
+        "an output of a wrong length, at times with wrong weights or tools",
     ),
     (
         Kind::Several,

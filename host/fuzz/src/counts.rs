@@ -5,7 +5,7 @@ use std::fmt;
 use std::time::{Duration, Instant};
 
 /// 0, and the refusals.
-const NUMBERS: usize = 11;
+const NUMBERS: usize = 12;
 /// A progress line comes this often.
 const PAUSE: Duration = Duration::from_secs(10);
 
@@ -84,8 +84,8 @@ mod tests {
         counts.add(Call::Load, 1);
         let text = counts.to_string();
         assert!(text.starts_with("5 executions in "));
-        assert!(text.contains("| pose | 4 | 75 | 3 | | | | | | | | | 1 | |"));
-        assert!(text.contains("| load | 1 | 0 | | 1 | | | | | | | | | |"));
-        assert!(text.contains("| 8 | 9 | 10 |\n|---|---|"));
+        assert!(text.contains("| pose | 4 | 75 | 3 | | | | | | | | | 1 | | |"));
+        assert!(text.contains("| load | 1 | 0 | | 1 | | | | | | | | | | |"));
+        assert!(text.contains("| 9 | 10 | 11 |\n|---|---|"));
     }
 }

@@ -3,8 +3,8 @@
 //! outside of its range is brought in.
 
 use crate::input::{Input, MOST};
-use compare::calls::Call;
-use compare::sheets::{List, Lists, Shape, CODES};
+use compare::calls::{number, Call};
+use compare::sheets::{List, Lists, Shape, CODES, TOOL_LISTS};
 use reference::refusals::{f64s, u16s};
 use reference::sheet::{GOAL_FLOATS, LINK_FLOATS};
 use reference::weights::WEIGHTS;
@@ -25,6 +25,7 @@ pub fn mend(input: &mut Input) {
     if input.call != Call::SetWeights {
         mend_arms(&mut input.lists);
     }
+    mend_tools(input);
     make_room(input);
 }
 
@@ -55,6 +56,24 @@ fn mend_arms(lists: &mut Lists) {
     set_groups(lists, List::Joints, joints, &[0.0], |joint| {
         clamp(joint, -8.0, 8.0)
     });
+}
+
+/// A tool to be set is one, on a chain that is loaded. Where a call works with tools,
+/// no byte is none, and all that a chain which is not loaded can have.
+fn mend_tools(input: &mut Input) {
+    let (call, lists) = (input.call, &mut input.lists);
+    if call == Call::SetTool {
+        set_groups(lists, List::Tool, 1, &LINK, mend_link);
+        let chain = number(lists.get(List::Chain)) % lists.chains as u32;
+        lists.set(List::Chain, &chain.to_le_bytes());
+    }
+    for (chain, list) in TOOL_LISTS.into_iter().enumerate() {
+        if chain >= lists.chains {
+            lists.set(list, &[]);
+        } else if !lists.get(list).is_empty() {
+            set_groups(lists, list, 1, &LINK, mend_link);
+        }
+    }
 }
 
 /// The codes of each chain, as far as sizes and codes tell.

@@ -88,7 +88,7 @@ fn bytes(input: &mut Input, draw: &mut Draw, keep: bool, plain: &mut impl FnMut(
 /// One float becomes a neighbour, its negative, an edge, or any.
 fn float(input: &mut Input, draw: &mut Draw) {
     let mut lists = input.call.read().to_vec();
-    lists.retain(|list| !matches!(list, List::Sizes | List::Codes));
+    lists.retain(|list| !matches!(list, List::Sizes | List::Codes | List::Chain));
     let list = draw.pick(&lists);
     let mut bytes = input.lists.get(list).to_vec();
     let count = bytes.len() / 8;

@@ -1,11 +1,11 @@
 //! The published files of relaxed_ik_core (commit 1c48d2ae40, MIT, see
 //! LICENSE), run on document 01's stand-ins. README.md lists every place where
-//! a file differs from the published one. `sheet`, `weights`, `refusals`,
+//! a file differs from the published one. `sheet`, `weights`, `tools`, `refusals`,
 //! `record`, `sizing` and `losses` are ours: the first makes the published
 //! structures from plain numbers, the second sets other weights in them, the third
-//! says which numbers the papers refuse, the fourth walks document 01's separate
-//! copies, the fifth counts what all of these make of a sheet, the last asks the
-//! objectives for single losses.
+//! puts tools behind their last frames, the fourth says which numbers the papers
+//! refuse, the fifth walks document 01's separate copies, the sixth counts what all
+//! of these make of a sheet, the last asks the objectives for single losses.
 
 #![forbid(unsafe_code)]
 // The published files are left as they are written.
@@ -40,5 +40,7 @@ pub mod refusals;
 pub mod sheet;
 #[warn(dead_code, non_snake_case, unused, clippy::all)]
 pub mod sizing;
+#[warn(dead_code, non_snake_case, unused, clippy::all)]
+pub mod tools;
 #[warn(dead_code, non_snake_case, unused, clippy::all)]
 pub mod weights;

@@ -1,11 +1,12 @@
 //! Ours, no part of the published files: the refusals 1 to 9 of document 01's
-//! section 'From the input' and 10 of document 02's change 2, written from the
-//! papers, apart from the proved code. Each public call below answers 0 or the
-//! lowest number that applies.
+//! section 'From the input', 10 and 11 of document 02's changes 2 and 3, written
+//! from the papers, apart from the proved code. Each public call below answers 0 or
+//! the lowest number that applies.
 //! The state numbers 20 to 22 are no concern here: a byte call keeps no state.
 
 use crate::sheet::{END_FLOATS, GOAL_FLOATS, LINK_FLOATS};
 use crate::sizing::PLAN;
+use crate::tools::{TOOLS, TOOL_FLOATS};
 use crate::weights::WEIGHTS;
 
 /// The answer of a call that is not refused.
@@ -32,6 +33,12 @@ impl<'a, T> List<'a, T> {
     fn has(&self, count: usize) -> bool {
         !self.ragged && self.numbers.len() == count
     }
+
+    /// Without a number.
+    pub const NONE: Self = Self {
+        numbers: &[],
+        ragged: false,
+    };
 
     /// Not a byte: a part of a number is one that is lent.
     fn is_none(&self) -> bool {
@@ -145,6 +152,9 @@ impl Sheet<'_> {
     }
 }
 
+/// By chain; empty for none.
+pub type Tools<'a> = [List<'a, f64>; TOOLS];
+
 /// What the objective and its slopes are lent besides the joints.
 #[derive(Clone, Copy, Debug)]
 pub struct Given<'a> {
@@ -153,6 +163,7 @@ pub struct Given<'a> {
     pub history: List<'a, f64>,
     /// Empty for none loaded.
     pub weights: List<'a, f64>,
+    pub tools: Tools<'a>,
 }
 
 /// The three lists of the one-block call's record.
@@ -221,11 +232,15 @@ fn wrong_limits(sheet: &Sheet) -> bool {
             .all(|pair| allowed(pair[0], pair[1]))
 }
 
+/// Displacement and offset.
+fn wrong_link(link: &[f64]) -> bool {
+    !link[..3].iter().all(|&v| within(v, -10.0, 10.0)) || !is_turn(&link[3..])
+}
+
 /// 6.
 fn wrong_links(sheet: &Sheet) -> bool {
-    let wrong =
-        |link: &[f64]| !link[..3].iter().all(|&v| within(v, -10.0, 10.0)) || !is_turn(&link[3..]);
-    sheet.floats.numbers.chunks_exact(LINK_FLOATS).any(wrong)
+    let mut links = sheet.floats.numbers.chunks_exact(LINK_FLOATS);
+    links.any(wrong_link)
 }
 
 /// 7, for a block of joints or several blocks in one list.
@@ -246,6 +261,18 @@ fn wrong_goals(goals: List<f64>, chains: usize) -> bool {
 /// 10.
 fn wrong_weights(weights: List<f64>) -> bool {
     !weights.has(WEIGHTS) || !weights.numbers.iter().all(|&v| within(v, 0.0, 1000.0))
+}
+
+/// 11, for one tool: ranged as a link.
+fn wrong_tool(tool: List<f64>) -> bool {
+    !tool.has(TOOL_FLOATS) || wrong_link(tool.numbers)
+}
+
+/// 11, for the four lists of a call: behind the last chain none may have a byte.
+fn wrong_tools(tools: &Tools, chains: usize) -> bool {
+    let (loaded, behind) = tools.split_at(chains);
+    let wrong = |tool: &List<f64>| !tool.is_none() && wrong_tool(*tool);
+    loaded.iter().any(wrong) || !behind.iter().all(List::is_none)
 }
 
 /// 1 to 4, which sizes, codes and the lengths of their lists decide.
@@ -295,6 +322,22 @@ pub fn set_weights(weights: List<f64>) -> u32 {
     }
 }
 
+/// For a chain of this number, from 0 on; no list is not taken for none.
+pub fn set_tool(sheet: &Sheet, tool: List<f64>, chain: u32) -> u32 {
+    match load(sheet) {
+        ACCEPTED if chain as usize >= sheet.chains() || wrong_tool(tool) => 11,
+        answer => answer,
+    }
+}
+
+/// 11 behind all other numbers of a call.
+fn then_tools(answer: u32, sheet: &Sheet, tools: &Tools) -> u32 {
+    match answer {
+        ACCEPTED if wrong_tools(tools, sheet.chains()) => 11,
+        answer => answer,
+    }
+}
+
 /// A call on one block of joints; `fits` says whether its outputs are long
 /// enough.
 fn on_joints(sheet: &Sheet, joints: List<f64>, fits: impl FnOnce() -> bool) -> u32 {
@@ -313,18 +356,19 @@ pub fn frames(sheet: &Sheet, joints: List<f64>, positions: Room, rotations: Room
     })
 }
 
-pub fn pose(sheet: &Sheet, joints: List<f64>, ends: Room) -> u32 {
-    on_joints(sheet, joints, || ends.holds(END_FLOATS * sheet.chains()))
+pub fn pose(sheet: &Sheet, tools: &Tools, joints: List<f64>, ends: Room) -> u32 {
+    let fits = || ends.holds(END_FLOATS * sheet.chains());
+    then_tools(on_joints(sheet, joints, fits), sheet, tools)
 }
 
 pub fn manipulability(sheet: &Sheet, joints: List<f64>, value: Room) -> u32 {
     on_joints(sheet, joints, || value.holds(1))
 }
 
-pub fn reset(sheet: &Sheet, joints: List<f64>, history: Room, ends: Room) -> u32 {
-    on_joints(sheet, joints, || {
-        history.holds(BLOCKS * sheet.all_joints()) && ends.holds(END_FLOATS * sheet.chains())
-    })
+pub fn reset(sheet: &Sheet, tools: &Tools, joints: List<f64>, history: Room, ends: Room) -> u32 {
+    let fits =
+        || history.holds(BLOCKS * sheet.all_joints()) && ends.holds(END_FLOATS * sheet.chains());
+    then_tools(on_joints(sheet, joints, fits), sheet, tools)
 }
 
 pub fn update(sheet: &Sheet, history: List<f64>, joints: List<f64>, renewed: Room) -> u32 {
@@ -335,12 +379,12 @@ pub fn update(sheet: &Sheet, history: List<f64>, joints: List<f64>, renewed: Roo
     }
 }
 
-/// A call on goals, history, weights and a block of joints, in the order of the
-/// numbers: 7 comes before 8, though the goals are lent first, and the outputs
-/// come before the weights.
+/// A call on goals, history, weights, tools and a block of joints, in the order of
+/// the numbers: 7 comes before 8, though the goals are lent first, and the outputs
+/// come before the weights, the weights before the tools.
 fn on_goals(given: &Given, joints: List<f64>, fits: impl FnOnce() -> bool) -> u32 {
     let sheet = &given.sheet;
-    match load(sheet) {
+    let answer = match load(sheet) {
         ACCEPTED
             if wrong_block(given.history, BLOCKS * sheet.all_joints())
                 || wrong_block(joints, sheet.all_joints()) =>
@@ -351,7 +395,8 @@ fn on_goals(given: &Given, joints: List<f64>, fits: impl FnOnce() -> bool) -> u3
         ACCEPTED if !fits() => 9,
         ACCEPTED if !given.weights.is_none() => set_weights(given.weights),
         answer => answer,
-    }
+    };
+    then_tools(answer, sheet, &given.tools)
 }
 
 pub fn objective(given: &Given, joints: List<f64>, value: Room) -> u32 {

@@ -25,7 +25,7 @@ const AXES: [&str; 7] = ["none", "x", "y", "z", "-x", "-y", "-z"];
 
 /// Four floats as they came, w first. A sheet's quaternion is used unchanged,
 /// not normalised again.
-fn quaternion(q: &[f64]) -> UnitQuaternion<f64> {
+pub(crate) fn quaternion(q: &[f64]) -> UnitQuaternion<f64> {
     UnitQuaternion::new_unchecked(Quaternion::new(q[0], q[1], q[2], q[3]))
 }
 

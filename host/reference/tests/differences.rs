@@ -6,6 +6,7 @@ use reference::groove::vars::RelaxedIKVars;
 use reference::sheet;
 use reference::spacetime::arm::Arm;
 use reference::spacetime::robot::Robot;
+use reference::tools::{self, TOOLS};
 use reference::weights;
 use relaxed_ik::{Given, Sheet};
 use std::panic;
@@ -21,6 +22,7 @@ struct Lists {
     blocks: [Vec<f64>; 4],
     joints: Vec<f64>,
     weights: Vec<f64>,
+    tools: [Vec<f64>; TOOLS],
 }
 
 const LINK: [f64; 7] = [0.0, 0.0, 1.0, 1.0, 0.0, 0.0, 0.0];
@@ -42,6 +44,7 @@ fn arms(chains: &[u16]) -> Lists {
         blocks: std::array::from_fn(|_| vec![0.0; links]),
         joints: vec![0.0; links],
         weights: Vec::new(),
+        tools: Default::default(),
     }
 }
 
@@ -107,7 +110,9 @@ fn published(lists: &Lists) -> Option<f64> {
     let lists = lists.clone();
     let run = move || {
         let vars = vars(&lists);
-        weights::master(&vars.robot.chain_lengths, &lists.weights).call(&lists.joints, &vars)
+        let master = weights::master(&vars.robot.chain_lengths, &lists.weights);
+        let master = tools::with_tools(master, &tools::tools(&lists.tools));
+        master.call(&lists.joints, &vars)
     };
     panic::catch_unwind(run).ok()
 }
@@ -125,6 +130,7 @@ fn proved(lists: &Lists) -> Result<f64, u32> {
         goals: &lists.goals,
         history: &lists.blocks.concat(),
         weights: &lists.weights,
+        tools: lists.tools.each_ref().map(|tool| &tool[..]),
     };
     given
         .objective(&lists.joints)
@@ -255,6 +261,32 @@ fn own_weights() {
     goes_on(10, &weighing(-1.0), -28.735335283236623);
     goes_on(10, &weighing(1000.5), -3033.2353352832365);
     goes_on(10, &weighing(f64::NAN), f64::NAN);
+}
+
+/// A tool of chain 0 as long as a link, changed.
+fn tooled(change: impl Fn(&mut Vec<f64>)) -> Lists {
+    with(|l| {
+        l.tools[0] = LINK.to_vec();
+        change(&mut l.tools[0]);
+    })
+}
+
+/// The source has no tools: the reference applies one by the steps of a fixed link.
+#[test]
+fn own_tools() {
+    let reached = 368.2646647167633;
+    let taken = tooled(|_| ());
+    assert_eq!(proved(&taken), Ok(reached));
+    assert_eq!(published(&taken), Some(reached));
+    let offset = |q: [f64; 4]| tooled(move |tool| tool[3..].copy_from_slice(&q));
+    goes_on(11, &tooled(|tool| tool[0] = 11.0), 60918.264664716764);
+    goes_on(11, &tooled(|tool| tool[0] = f64::NAN), f64::NAN);
+    goes_on(11, &offset([0.0, 0.0, 0.0, 2.0]), 1365.2251048256994);
+    goes_on(11, &offset([0.0; 4]), reached);
+    panics(11, &tooled(|tool| tool.truncate(6)));
+    goes_on(11, &tooled(|tool| tool.push(0.0)), reached);
+    // A chain that is not loaded is never asked for its tool.
+    goes_on(11, &with(|l| l.tools[1] = LINK.to_vec()), PLAIN);
 }
 
 /// The published reset keeps its joints apart, and they outlast every update.

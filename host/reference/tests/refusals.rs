@@ -1,9 +1,14 @@
-//! Document 01's refusals at their edges, and in their order.
+//! The papers' refusals at their edges, and in their order.
 
 mod lists;
 
 use lists::{chains, Lists, UP};
 use reference::refusals::*;
+use reference::tools::TOOLS;
+
+const NO_TOOLS: Tools = [List::NONE; TOOLS];
+/// One that is taken, -0.0 among its parts.
+const TOOL: [f64; 7] = [0.5, -0.0, 10.0, 0.0, -1.0, -0.0, 0.0];
 
 impl Lists {
     fn load(&self) -> u32 {
@@ -197,12 +202,27 @@ fn outputs_may_be_longer_but_not_shorter_or_ragged() {
     assert_eq!(answer(22, 37), 0);
     assert_eq!(answer(20, 36), 9);
     assert_eq!(answer(21, 35), 9);
-    assert_eq!(pose(&sheet, joints, Room::of_bytes(14 * 8)), 0);
-    assert_eq!(pose(&sheet, joints, Room::of_bytes(14 * 8 + 1)), 9);
-    assert_eq!(pose(&sheet, joints, Room::of_bytes(14 * 8 - 1)), 9);
-    assert_eq!(reset(&sheet, joints, Room::of(16), Room::of(14)), 0);
-    assert_eq!(reset(&sheet, joints, Room::of(15), Room::of(14)), 9);
-    assert_eq!(reset(&sheet, joints, Room::of(16), Room::of(13)), 9);
+    assert_eq!(pose(&sheet, &NO_TOOLS, joints, Room::of_bytes(14 * 8)), 0);
+    assert_eq!(
+        pose(&sheet, &NO_TOOLS, joints, Room::of_bytes(14 * 8 + 1)),
+        9
+    );
+    assert_eq!(
+        pose(&sheet, &NO_TOOLS, joints, Room::of_bytes(14 * 8 - 1)),
+        9
+    );
+    assert_eq!(
+        reset(&sheet, &NO_TOOLS, joints, Room::of(16), Room::of(14)),
+        0
+    );
+    assert_eq!(
+        reset(&sheet, &NO_TOOLS, joints, Room::of(15), Room::of(14)),
+        9
+    );
+    assert_eq!(
+        reset(&sheet, &NO_TOOLS, joints, Room::of(16), Room::of(13)),
+        9
+    );
     let history = [0.0; 16];
     let answer = |h: usize, r: usize| update(&sheet, List::of(&history[..h]), joints, Room::of(r));
     assert_eq!(answer(16, 16), 0);
@@ -245,7 +265,8 @@ fn the_lowest_number_wins() {
     lists.floats.pop();
     lists.limits[0] = f64::NAN;
     let answer = |lists: &Lists, joints: &[f64]| {
-        let by_reset = reset(&lists.sheet(), List::of(joints), Room::of(0), Room::of(0));
+        let (block, none) = (List::of(joints), Room::of(0));
+        let by_reset = reset(&lists.sheet(), &NO_TOOLS, block, none, none);
         let by_update = update(
             &lists.sheet(),
             List::of(&history),
@@ -283,7 +304,8 @@ fn given<'a>(lists: &'a Lists, goals: &'a [f64], history: &'a [f64]) -> Given<'a
         sheet: lists.sheet(),
         goals: List::of(goals),
         history: List::of(history),
-        weights: List::of(&[]),
+        weights: List::NONE,
+        tools: NO_TOOLS,
     }
 }
 
@@ -383,7 +405,7 @@ fn all_on_goals(given: &Given, joints: &[f64], room: usize) -> u32 {
 }
 
 /// Joints or history before goals, goals before outputs, the sheet before all;
-/// weights come last.
+/// weights come behind them, tools last.
 #[test]
 fn the_lowest_number_wins_for_slopes() {
     let mut lists = chains(&[&[13, 12], &[13, 12]]);
@@ -396,6 +418,12 @@ fn the_lowest_number_wins_for_slopes() {
         let answer = all_on_goals(&given, joints, 0);
         given.weights = List::of(&[0.5; 9]);
         assert_eq!(all_on_goals(&given, joints, 0), answer);
+        given.tools[2] = List::of(&TOOL);
+        assert_eq!(all_on_goals(&given, joints, 0), answer);
+        assert_eq!(
+            on_arms(&given, joints, 0),
+            on_arms(&given_none(&given), joints, 0)
+        );
         answer
     };
     let (no_goals, no_joints) = ([1.0; 26], [f64::NAN; 4]);
@@ -466,4 +494,140 @@ fn weights_are_eight_or_none() {
         ragged.ragged = true;
         assert_eq!(with_weights(ragged), [10, 10], "{count} and a part of one");
     }
+}
+
+/// What `pose` and `reset` answer, with outputs of so much room.
+fn on_arms(given: &Given, joints: &[f64], room: usize) -> u32 {
+    let (joints, room) = (List::of(joints), Room::of(room));
+    let answer = pose(&given.sheet, &given.tools, joints, room);
+    assert_eq!(
+        answer,
+        reset(&given.sheet, &given.tools, joints, room, room)
+    );
+    answer
+}
+
+/// The same without tools.
+fn given_none<'a>(given: &Given<'a>) -> Given<'a> {
+    Given {
+        tools: NO_TOOLS,
+        ..*given
+    }
+}
+
+/// What the calls that are lent tools answer to these on two chains.
+fn with_tools(tools: Tools) -> u32 {
+    let lists = chains(&[&[13, 12], &[0, 13, 12]]);
+    let (goals, history) = (taken_goals(2), [0.5; 16]);
+    let mut given = given(&lists, &goals, &history);
+    given.tools = tools;
+    let answer = all_on_goals(&given, &lists.joints, 98);
+    assert_eq!(answer, on_arms(&given, &lists.joints, 98));
+    // Short outputs and wrong weights come before.
+    assert_eq!(all_on_goals(&given, &lists.joints, 0), 9);
+    assert_eq!(on_arms(&given, &lists.joints, 0), 9);
+    given.weights = List::of(&[f64::NAN; 8]);
+    assert_eq!(all_on_goals(&given, &lists.joints, 98), 10);
+    answer
+}
+
+/// This list for a chain, the other chains without one.
+fn only(chain: usize, tool: List<f64>) -> u32 {
+    let mut tools = NO_TOOLS;
+    tools[chain] = tool;
+    with_tools(tools)
+}
+
+/// Setting this tool on a chain of two.
+fn set(tool: List<f64>, chain: u32) -> u32 {
+    set_tool(&chains(&[&[13, 12], &[0, 13, 12]]).sheet(), tool, chain)
+}
+
+#[test]
+fn a_tool_is_ranged_as_a_link() {
+    for at in 0..7 {
+        for value in [
+            10.0,
+            -10.0,
+            10.0f64.next_up(),
+            (-10.0f64).next_down(),
+            -0.0,
+            1.0,
+            -1.0,
+            1e-300,
+            f64::INFINITY,
+            f64::NAN,
+        ] {
+            for base in [UP, TOOL, [0.0, 0.0, 0.0, -1.0, -0.0, 0.0, -0.0]] {
+                let mut tool = base;
+                tool[at] = value;
+                // 11 where a link with these floats is refused by 6.
+                let expected = if with_link(tool) == 0 { 0 } else { 11 };
+                for chain in 0..2 {
+                    let tool = List::of(&tool[..]);
+                    assert_eq!(set(tool, chain as u32), expected, "{tool:?}");
+                    assert_eq!(only(chain, tool), expected, "{tool:?}");
+                }
+            }
+        }
+    }
+}
+
+/// A call that uses tools takes no list for none; to set none is refused.
+#[test]
+fn a_tool_is_seven_floats_or_none() {
+    for count in 0..=30 {
+        let mut floats = TOOL.repeat(5);
+        floats.truncate(count);
+        for chain in 0..2 {
+            let list = List::of(&floats[..]);
+            let (to_set, lent) = match count {
+                0 => (11, 0),
+                7 => (0, 0),
+                _ => (11, 11),
+            };
+            assert_eq!(set(list, chain as u32), to_set, "{count}");
+            assert_eq!(only(chain, list), lent, "{count}");
+            let mut ragged = list;
+            ragged.ragged = true;
+            assert_eq!(set(ragged, chain as u32), 11, "{count} and a part of one");
+            assert_eq!(only(chain, ragged), 11, "{count} and a part of one");
+        }
+    }
+}
+
+#[test]
+fn a_chain_that_is_not_loaded_has_no_tool() {
+    for chain in [2, 3, 4, 5, 255, 256, 65536, u32::MAX - 1, u32::MAX] {
+        assert_eq!(set(List::of(&TOOL), chain), 11, "chain {chain}");
+    }
+    let mut part = List::NONE;
+    part.ragged = true;
+    for chain in 2..4 {
+        for list in [List::of(&TOOL), List::of(&TOOL[..3]), part] {
+            assert_eq!(only(chain, list), 11, "chain {chain}");
+        }
+        assert_eq!(only(chain, List::NONE), 0);
+    }
+    let all = [List::of(&TOOL), List::of(&UP), List::NONE, List::NONE];
+    assert_eq!(with_tools(all), 0);
+}
+
+/// The sheet comes before the tool and the chain.
+#[test]
+fn a_tool_is_looked_at_behind_the_sheet() {
+    let good = chains(&[&[13, 12], &[13, 12]]);
+    let answer = |change: fn(&mut Lists)| {
+        let mut lists = chains(&[&[13, 12], &[13, 12]]);
+        change(&mut lists);
+        set_tool(&lists.sheet(), List::of(&TOOL[1..]), 7)
+    };
+    assert_eq!(answer(|_| ()), 11);
+    assert_eq!(answer(|lists| lists.floats[0] = 11.0), 6);
+    assert_eq!(answer(|lists| lists.limits[0] = f64::NAN), 5);
+    assert_eq!(answer(|lists| lists.codes[1] = 0), 4);
+    assert_eq!(answer(|lists| lists.codes[1] = 37), 3);
+    assert_eq!(answer(|lists| lists.codes.truncate(1)), 2);
+    assert_eq!(answer(|lists| lists.sizes.clear()), 1);
+    assert_eq!(set_tool(&good.sheet(), List::of(&TOOL), 1), 0);
 }

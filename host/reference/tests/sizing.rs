@@ -6,6 +6,7 @@ mod lists;
 use lists::{chains, Lists};
 use reference::refusals::*;
 use reference::sizing::plan;
+use reference::tools::TOOLS;
 
 const GOAL: [f64; 13] = [
     0.5, 0.5, 0.5, 1.0, 0.0, 0.0, 0.0, 0.5, 0.5, 0.5, 0.5, 0.5, 0.5,
@@ -33,7 +34,8 @@ impl Lists {
             sheet: self.sheet(),
             goals: List::of(&goals),
             history: List::of(&history),
-            weights: List::of(&[]),
+            weights: List::NONE,
+            tools: [List::NONE; TOOLS],
         };
         let record = RecordRoom {
             joints: Room::of(entries),

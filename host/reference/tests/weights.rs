@@ -1,31 +1,23 @@
 //! Weights set in the published list of priors, and what the published master
 //! answers with them.
 
+mod robots;
+
 use reference::groove::objective_master::ObjectiveMaster;
 use reference::groove::vars::RelaxedIKVars;
 use reference::sheet;
 use reference::weights::{built_in, master, Weighted, WEIGHTS};
+use robots::{goals, robot, JOINTS};
 
 /// One weight a kind, no two the same.
 const OWN: [f64; WEIGHTS] = [20.0, 60.0, 0.25, 3.0, 1000.0, 0.0, 7.5, 0.125];
 const LENGTHS: [&[usize]; 5] = [&[2], &[3], &[7], &[6, 3], &[4, 4, 4, 4]];
 
-/// Two chains, of six joints and of three, near a goal each.
 fn vars() -> RelaxedIKVars {
-    let codes = [13, 12, 11, 13, 12, 11, 13, 32, 21];
-    let link = [0.1, 0.0, 0.3, 0.8, 0.0, 0.6, 0.0];
-    let limits = [-3.0, 3.0].repeat(codes.len());
-    let robot = sheet::robot(&[2, 6, 3], &codes, &link.repeat(codes.len()), &limits);
-    let ends = sheet::ends(&robot, &JOINTS.map(|v| v + 0.01));
-    let goals = ends.chunks_exact(7);
-    let goals = goals.flat_map(|end| [end, &[0.0, 0.1, 0.0, 0.0, 0.5, 3.2]].concat());
-    let goals: Vec<f64> = goals.collect();
-    let mut vars = sheet::vars(robot, &goals, &JOINTS.map(|v| v * 0.9));
+    let mut vars = sheet::vars(robot(), &goals(), &JOINTS.map(|v| v * 0.9));
     vars.update(JOINTS.map(|v| v * 0.97).to_vec());
     vars
 }
-
-const JOINTS: [f64; 9] = [0.1, -0.2, 0.3, 0.4, -0.5, 0.6, 0.7, 0.8, 0.9];
 
 #[test]
 fn the_built_in_weights_are_those_of_the_paper() {

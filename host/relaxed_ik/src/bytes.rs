@@ -44,6 +44,19 @@ mod c {
             goals: *const u8,
             goals_length: usize,
         ) -> u32;
+        pub fn relaxed_ik_set_tool(
+            sizes: *const u8,
+            sizes_length: usize,
+            codes: *const u8,
+            codes_length: usize,
+            floats: *const u8,
+            floats_length: usize,
+            limits: *const u8,
+            limits_length: usize,
+            tool: *const u8,
+            tool_length: usize,
+            chain: u32,
+        ) -> u32;
         pub fn relaxed_ik_frames(
             sizes: *const u8,
             sizes_length: usize,
@@ -69,6 +82,14 @@ mod c {
             floats_length: usize,
             limits: *const u8,
             limits_length: usize,
+            tool0: *const u8,
+            tool0_length: usize,
+            tool1: *const u8,
+            tool1_length: usize,
+            tool2: *const u8,
+            tool2_length: usize,
+            tool3: *const u8,
+            tool3_length: usize,
             joints: *const u8,
             joints_length: usize,
             ends: *mut u8,
@@ -97,6 +118,14 @@ mod c {
             floats_length: usize,
             limits: *const u8,
             limits_length: usize,
+            tool0: *const u8,
+            tool0_length: usize,
+            tool1: *const u8,
+            tool1_length: usize,
+            tool2: *const u8,
+            tool2_length: usize,
+            tool3: *const u8,
+            tool3_length: usize,
             joints: *const u8,
             joints_length: usize,
             history: *mut u8,
@@ -136,6 +165,14 @@ mod c {
             history_length: usize,
             weights: *const u8,
             weights_length: usize,
+            tool0: *const u8,
+            tool0_length: usize,
+            tool1: *const u8,
+            tool1_length: usize,
+            tool2: *const u8,
+            tool2_length: usize,
+            tool3: *const u8,
+            tool3_length: usize,
             joints: *const u8,
             joints_length: usize,
             value: *mut u8,
@@ -156,6 +193,14 @@ mod c {
             history_length: usize,
             weights: *const u8,
             weights_length: usize,
+            tool0: *const u8,
+            tool0_length: usize,
+            tool1: *const u8,
+            tool1_length: usize,
+            tool2: *const u8,
+            tool2_length: usize,
+            tool3: *const u8,
+            tool3_length: usize,
             joints: *const u8,
             joints_length: usize,
             scratch: *mut u8,
@@ -180,6 +225,14 @@ mod c {
             history_length: usize,
             weights: *const u8,
             weights_length: usize,
+            tool0: *const u8,
+            tool0_length: usize,
+            tool1: *const u8,
+            tool1_length: usize,
+            tool2: *const u8,
+            tool2_length: usize,
+            tool3: *const u8,
+            tool3_length: usize,
             joints: *const u8,
             joints_length: usize,
             scratch: *mut u8,
@@ -204,6 +257,14 @@ mod c {
             history_length: usize,
             weights: *const u8,
             weights_length: usize,
+            tool0: *const u8,
+            tool0_length: usize,
+            tool1: *const u8,
+            tool1_length: usize,
+            tool2: *const u8,
+            tool2_length: usize,
+            tool3: *const u8,
+            tool3_length: usize,
             joints: *const u8,
             joints_length: usize,
             value: *mut u8,
@@ -439,10 +500,23 @@ pub struct Sheet<'a> {
     pub limits: &'a [u8],
 }
 
+/// A list for each chain by its number, loaded or not: seven floats, displacement
+/// and offset w first, or no byte for no tool.
+pub type Tools<'a> = [&'a [u8]; crate::MOST_CHAINS];
+
 /// Names a call of `c`, then the sheet's lists and the call's own, each as
 /// pointer and length.
 macro_rules! call {
-    ($name:ident, $sheet:expr $(, read $read:expr)* $(, write $write:expr)*) => {
+    ($name:ident, $sheet:expr $(, read $first:expr)*, tools $tools:expr $(, read $then:expr)* $(, write $write:expr)*) => {
+        call!(
+            $name, $sheet
+            $(, read $first)*,
+            read $tools[0], read $tools[1], read $tools[2], read $tools[3]
+            $(, read $then)*
+            $(, write $write)*
+        )
+    };
+    ($name:ident, $sheet:expr $(, read $read:expr)* $(, write $write:expr)* $(, number $number:expr)?) => {
         unsafe {
             c::$name(
                 $sheet.sizes.as_ptr(), $sheet.sizes.len(),
@@ -451,6 +525,7 @@ macro_rules! call {
                 $sheet.limits.as_ptr(), $sheet.limits.len(),
                 $($read.as_ptr(), $read.len(),)*
                 $($write.as_mut_ptr(), $write.len(),)*
+                $($number,)?
             )
         }
     };
@@ -482,6 +557,12 @@ pub fn set_goals(sheet: Sheet, goals: &[u8]) -> u32 {
     call!(relaxed_ik_set_goals, sheet, read goals)
 }
 
+/// A tool of the chain with this number, from 0. Here a list of no byte is refused
+/// too.
+pub fn set_tool(sheet: Sheet, tool: &[u8], chain: u32) -> u32 {
+    call!(relaxed_ik_set_tool, sheet, read tool, number chain)
+}
+
 /// Positions by three and rotations by four, w first, chain after chain: L
 /// links have L + 1 positions and L + 2 rotations.
 pub fn frames(sheet: Sheet, joints: &[u8], positions: &mut [u8], rotations: &mut [u8]) -> u32 {
@@ -489,8 +570,8 @@ pub fn frames(sheet: Sheet, joints: &[u8], positions: &mut [u8], rotations: &mut
 }
 
 /// Seven floats a chain: position, rotation w first.
-pub fn pose(sheet: Sheet, joints: &[u8], ends: &mut [u8]) -> u32 {
-    call!(relaxed_ik_pose, sheet, read joints, write ends)
+pub fn pose(sheet: Sheet, tools: Tools, joints: &[u8], ends: &mut [u8]) -> u32 {
+    call!(relaxed_ik_pose, sheet, tools tools, read joints, write ends)
 }
 
 /// One float.
@@ -499,8 +580,14 @@ pub fn manipulability(sheet: Sheet, joints: &[u8], value: &mut [u8]) -> u32 {
 }
 
 /// Four blocks of joints, current first, and the end poses as in `pose`.
-pub fn reset(sheet: Sheet, joints: &[u8], history: &mut [u8], ends: &mut [u8]) -> u32 {
-    call!(relaxed_ik_reset, sheet, read joints, write history, write ends)
+pub fn reset(
+    sheet: Sheet,
+    tools: Tools,
+    joints: &[u8],
+    history: &mut [u8],
+    ends: &mut [u8],
+) -> u32 {
+    call!(relaxed_ik_reset, sheet, tools tools, read joints, write history, write ends)
 }
 
 /// Four blocks of joints, laid out as the old ones.
@@ -523,6 +610,7 @@ pub struct Given<'a> {
     pub history: &'a [u8],
     /// No byte for the built-in ones.
     pub weights: &'a [u8],
+    pub tools: Tools<'a>,
 }
 
 /// The three lists of the one-block call's record, an entry for each walked
@@ -541,7 +629,7 @@ pub struct Record<'a> {
 pub fn objective(given: Given, joints: &[u8], value: &mut [u8]) -> u32 {
     call!(
         relaxed_ik_objective, given.sheet,
-        read given.goals, read given.history, read given.weights, read joints,
+        read given.goals, read given.history, read given.weights, tools given.tools, read joints,
         write value
     )
 }
@@ -558,7 +646,7 @@ pub fn gradient(
 ) -> u32 {
     call!(
         relaxed_ik_gradient, given.sheet,
-        read given.goals, read given.history, read given.weights, read joints,
+        read given.goals, read given.history, read given.weights, tools given.tools, read joints,
         write scratch, write value, write slopes
     )
 }
@@ -574,7 +662,7 @@ pub fn gradient_finite_diff(
 ) -> u32 {
     call!(
         relaxed_ik_gradient_finite_diff, given.sheet,
-        read given.goals, read given.history, read given.weights, read joints,
+        read given.goals, read given.history, read given.weights, tools given.tools, read joints,
         write scratch, write value, write slopes
     )
 }
@@ -590,7 +678,7 @@ pub fn gradient_one_block(
 ) -> u32 {
     call!(
         relaxed_ik_gradient_one_block, given.sheet,
-        read given.goals, read given.history, read given.weights, read joints,
+        read given.goals, read given.history, read given.weights, tools given.tools, read joints,
         write value, write slopes,
         write record.joints, write record.links, write record.poses
     )

@@ -2,10 +2,11 @@
 //! [`Refusal`]s out. All unsafe code is in [`bytes`].
 //!
 //! The calls keep no state. A [`Sheet`] is lent to each of them, with goals,
-//! history and weights where they are used; they answer from these alone. So
-//! nothing has to be loaded before: each call looks at everything it is lent, and
-//! [`Sheet::load`], [`Sheet::set_goals`] and [`set_weights`] do only that. How long
-//! the frame lists and the record are, [`Plan`] says.
+//! history, weights and tools where they are used; they answer from these alone.
+//! So nothing has to be loaded before: each call looks at everything it is lent,
+//! and [`Sheet::load`], [`Sheet::set_goals`], [`Sheet::set_tool`] and
+//! [`set_weights`] do only that. How long the frame lists and the record are,
+//! [`Plan`] says.
 //!
 //! Lists that are written are lent as `&mut`, so they cannot share a byte with
 //! another list of the call:
@@ -19,17 +20,17 @@
 //! ```
 //!
 //! ```compile_fail,E0502
-//! # use relaxed_ik::Sheet;
+//! # use relaxed_ik::{Sheet, NO_TOOLS};
 //! # fn over(sheet: Sheet) {
 //! let mut joints = [0.0; 16];
-//! let _ = sheet.poses_into(&joints, &mut joints);
+//! let _ = sheet.poses_into(NO_TOOLS, &joints, &mut joints);
 //! # }
 //! ```
 //!
-//! Two links up 1, at rest:
+//! Two links up 1, at rest, without a tool and with one that reaches 0.5 up:
 //!
 //! ```
-//! use relaxed_ik::{Refusal, Sheet};
+//! use relaxed_ik::{Refusal, Sheet, NO_TOOLS};
 //!
 //! let up = [0.0, 0.0, 1.0, 1.0, 0.0, 0.0, 0.0];
 //! let sheet = Sheet {
@@ -38,9 +39,14 @@
 //!     floats: &[up, up].concat(),
 //!     limits: &[-3.0, 3.0, -3.0, 3.0],
 //! };
-//! let ends = sheet.poses(&[0.0, 0.0])?;
+//! let ends = sheet.poses(NO_TOOLS, &[0.0, 0.0])?;
 //! assert_eq!(ends[0].position, [0.0, 0.0, 2.0]);
-//! assert_eq!(sheet.poses(&[0.0, 9.0]), Err(Refusal::Joints));
+//! let tool = [0.0, 0.0, 0.5, 1.0, 0.0, 0.0, 0.0];
+//! sheet.set_tool(0, &tool)?;
+//! let ends = sheet.poses([&tool, &[], &[], &[]], &[0.0, 0.0])?;
+//! assert_eq!(ends[0].position, [0.0, 0.0, 2.5]);
+//! assert_eq!(sheet.set_tool(1, &tool), Err(Refusal::Tool));
+//! assert_eq!(sheet.poses(NO_TOOLS, &[0.0, 9.0]), Err(Refusal::Joints));
 //! # Ok::<(), Refusal>(())
 //! ```
 
@@ -53,12 +59,14 @@ pub mod leaves;
 mod objective;
 mod plan;
 mod refusal;
+mod tools;
 mod weights;
 
 #[cfg(feature = "objective")]
 pub use objective::{Given, Record, RecordLists, Slopes, Walk, NONE_RAISED};
 pub use plan::Plan;
 pub use refusal::Refusal;
+pub use tools::{Tools, MOST_CHAINS, NO_TOOLS, TOOL_FLOATS};
 pub use weights::{set_weights, WEIGHTS};
 
 use bytes::{of_floats, of_floats_mut, of_u16s};
@@ -203,17 +211,23 @@ impl Sheet<'_> {
         ))
     }
 
-    /// The end pose of each chain.
-    pub fn poses(&self, joints: &[f64]) -> Result<Vec<Pose>, Refusal> {
+    /// The end pose of each chain: its tool's, where it has one.
+    pub fn poses(&self, tools: Tools, joints: &[f64]) -> Result<Vec<Pose>, Refusal> {
         let mut ends = vec![0.0; POSE_FLOATS * self.chains()];
-        self.poses_into(joints, &mut ends)?;
+        self.poses_into(tools, joints, &mut ends)?;
         Ok(Pose::all(&ends))
     }
 
     /// Seven floats a chain, into a list at hand.
-    pub fn poses_into(&self, joints: &[f64], ends: &mut [f64]) -> Result<(), Refusal> {
+    pub fn poses_into(
+        &self,
+        tools: Tools,
+        joints: &[f64],
+        ends: &mut [f64],
+    ) -> Result<(), Refusal> {
         taken(bytes::pose(
             self.lent(),
+            tools.map(of_floats),
             of_floats(joints),
             of_floats_mut(ends),
         ))
@@ -231,11 +245,12 @@ impl Sheet<'_> {
     }
 
     /// A new start: the history is the joints four times.
-    pub fn reset(&self, joints: &[f64]) -> Result<Start, Refusal> {
+    pub fn reset(&self, tools: Tools, joints: &[f64]) -> Result<Start, Refusal> {
         let mut history = vec![0.0; HISTORY_BLOCKS * self.joints()];
         let mut ends = vec![0.0; POSE_FLOATS * self.chains()];
         taken(bytes::reset(
             self.lent(),
+            tools.map(of_floats),
             of_floats(joints),
             of_floats_mut(&mut history),
             of_floats_mut(&mut ends),

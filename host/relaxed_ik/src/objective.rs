@@ -2,12 +2,13 @@
 
 use crate::bytes::{self, of_floats, of_floats_mut, of_u16s_mut};
 use crate::refusal::taken;
-use crate::{Pose, Refusal, Sheet};
+use crate::{Pose, Refusal, Sheet, Tools};
 
 /// In a record, the joint of the first walk.
 pub const NONE_RAISED: u16 = 65535;
 
-/// The sheet, 13 floats of goal a chain, a history of four blocks, and weights.
+/// The sheet, 13 floats of goal a chain, a history of four blocks, weights and
+/// tools.
 #[derive(Clone, Copy, Debug)]
 pub struct Given<'a> {
     pub sheet: Sheet<'a>,
@@ -15,6 +16,7 @@ pub struct Given<'a> {
     pub history: &'a [f64],
     /// In the order of [`WEIGHTS`](crate::WEIGHTS); empty for the built-in ones.
     pub weights: &'a [f64],
+    pub tools: Tools<'a>,
 }
 
 /// The objective's value and its slope for each joint.
@@ -56,6 +58,7 @@ impl Given<'_> {
             goals: of_floats(self.goals),
             history: of_floats(self.history),
             weights: of_floats(self.weights),
+            tools: self.tools.map(of_floats),
         }
     }
 

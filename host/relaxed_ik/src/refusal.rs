@@ -18,11 +18,12 @@ pub enum Refusal {
     Goals = 8,
     Room = 9,
     Weights = 10,
+    Tool = 11,
 }
 
 impl Refusal {
     /// In the order of their numbers.
-    pub const ALL: [Self; 10] = [
+    pub const ALL: [Self; 11] = [
         Self::Sizes,
         Self::Lengths,
         Self::Code,
@@ -33,6 +34,7 @@ impl Refusal {
         Self::Goals,
         Self::Room,
         Self::Weights,
+        Self::Tool,
     ];
 
     /// The number that a call answers.
@@ -58,6 +60,7 @@ impl Refusal {
             Self::Goals => "13 floats a chain: position and tolerances within -100..100, a rotation whose squares' sum is within 0.999999999..1.000000001",
             Self::Room => "lists to be written as long as what goes into them",
             Self::Weights => "eight weights within 0..1000",
+            Self::Tool => "tools of loaded chains alone, each of seven floats: a displacement within -10..10 and an offset whose squares' sum is within 0.999999999..1.000000001",
         }
     }
 }

@@ -3,7 +3,7 @@
 mod lists;
 
 use lists::chains;
-use relaxed_ik::{bytes, Refusal, Sheet};
+use relaxed_ik::{bytes, Refusal, Sheet, NO_TOOLS};
 
 #[test]
 fn each_refusal_by_its_number() {
@@ -18,7 +18,7 @@ fn each_refusal_by_its_number() {
     }
     let (lists, joints) = (good, [0.0; 4]);
     let sheet = lists.sheet();
-    assert_eq!(sheet.poses(&[0.0; 3]), Err(Refusal::Joints));
+    assert_eq!(sheet.poses(NO_TOOLS, &[0.0; 3]), Err(Refusal::Joints));
     assert_eq!(sheet.manipulability(&[nan; 4]), Err(Refusal::Joints));
     assert_eq!(
         sheet.update(&[0.0; 15], &joints),
@@ -27,7 +27,10 @@ fn each_refusal_by_its_number() {
     );
     assert_eq!(sheet.set_goals(&[0.0; 26]), Err(Refusal::Goals));
     let mut ends = [5.0; 13];
-    assert_eq!(sheet.poses_into(&joints, &mut ends), Err(Refusal::Room));
+    assert_eq!(
+        sheet.poses_into(NO_TOOLS, &joints, &mut ends),
+        Err(Refusal::Room)
+    );
     assert_eq!(ends, [5.0; 13], "a refused call writes nothing");
 }
 
@@ -56,9 +59,9 @@ fn odd_sheets_are_refused_and_nothing_else_happens() {
         assert_eq!(sheet.load(), Err(Refusal::Sizes));
         assert_eq!(sheet.plan(), Err(Refusal::Sizes));
         assert_eq!(sheet.frames(&[]), Err(Refusal::Sizes));
-        assert_eq!(sheet.poses(&[]), Err(Refusal::Sizes));
+        assert_eq!(sheet.poses(NO_TOOLS, &[]), Err(Refusal::Sizes));
         assert_eq!(sheet.manipulability(&[]), Err(Refusal::Sizes));
-        assert_eq!(sheet.reset(&[]), Err(Refusal::Sizes));
+        assert_eq!(sheet.reset(NO_TOOLS, &[]), Err(Refusal::Sizes));
         assert_eq!(sheet.update(&[], &[]), Err(Refusal::Sizes));
     }
 }
@@ -82,7 +85,10 @@ fn frames_of_two_chains_come_apart() {
         .map(|f| (f.positions.len(), f.rotations.len()));
     assert_eq!(counts.collect::<Vec<_>>(), [(4, 5), (3, 4)]);
     assert_eq!(frames[1].positions[1], [0.25, 0.0, 1.0]);
-    let ends = lists.sheet().poses(&[0.0, 0.0, 0.25, 0.0]).unwrap();
+    let ends = lists
+        .sheet()
+        .poses(NO_TOOLS, &[0.0, 0.0, 0.25, 0.0])
+        .unwrap();
     assert_eq!(ends[1].position, frames[1].positions[2]);
     assert_eq!(ends[1].rotation, frames[1].rotations[3]);
 }
@@ -91,7 +97,10 @@ fn frames_of_two_chains_come_apart() {
 fn a_longer_list_keeps_its_tail() {
     let lists = chains(&[[13, 12]]);
     let mut ends = [9.0; 8];
-    lists.sheet().poses_into(&[0.0, 0.0], &mut ends).unwrap();
+    lists
+        .sheet()
+        .poses_into(NO_TOOLS, &[0.0, 0.0], &mut ends)
+        .unwrap();
     assert_eq!(ends, [0.0, 0.0, 2.0, 1.0, 0.0, 0.0, 0.0, 9.0]);
 }
 
@@ -100,9 +109,9 @@ fn reset_a_update_b_update_c() {
     let lists = chains(&[[13, 12]]);
     let sheet = lists.sheet();
     let (a, b, c) = ([0.1, 0.2], [0.3, 0.4], [0.5, -0.0]);
-    let start = sheet.reset(&a).unwrap();
+    let start = sheet.reset(NO_TOOLS, &a).unwrap();
     assert_eq!(start.history, [a, a, a, a].concat());
-    assert_eq!(start.ends, sheet.poses(&a).unwrap());
+    assert_eq!(start.ends, sheet.poses(NO_TOOLS, &a).unwrap());
     let second = sheet.update(&start.history, &b).unwrap();
     let third = sheet.update(&second, &c).unwrap();
     assert_eq!(third, [c, b, a, a].concat());
@@ -131,7 +140,7 @@ fn manipulability_needs_six_joints() {
 fn a_pose_rotates_as_the_frames_do() {
     let lists = chains(&[[12, 13]]);
     let quarter = std::f64::consts::FRAC_PI_2;
-    let end = lists.sheet().poses(&[quarter, 0.0]).unwrap()[0];
+    let end = lists.sheet().poses(NO_TOOLS, &[quarter, 0.0]).unwrap()[0];
     let z = end.rotate([0.0, 0.0, 1.0]);
     let expected = [1.0, 0.0, 0.0];
     assert!(z.iter().zip(expected).all(|(a, b)| (a - b).abs() < 1e-12));
@@ -139,14 +148,14 @@ fn a_pose_rotates_as_the_frames_do() {
 
 #[test]
 fn refusals_have_words_for_every_number() {
-    for number in 1..=10 {
+    for number in 1..=11 {
         let refusal = Refusal::of_number(number).unwrap();
         assert_eq!(refusal.number(), number);
         assert!(!refusal.words().is_empty());
         let text = refusal.to_string();
         assert!(text.starts_with(&format!("refused, {number}: ")), "{text}");
     }
-    for number in [0, 11, 20, 21, 22, u32::MAX] {
+    for number in [0, 12, 20, 21, 22, u32::MAX] {
         assert_eq!(Refusal::of_number(number), None);
     }
 }

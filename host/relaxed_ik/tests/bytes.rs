@@ -3,7 +3,9 @@
 mod lists;
 
 use lists::UP;
-use relaxed_ik::bytes::{self, of_floats, of_u16s, Sheet};
+use relaxed_ik::bytes::{self, of_floats, of_u16s, Sheet, Tools};
+
+const NO_TOOLS: Tools = [&[]; 4];
 
 fn floats(numbers: &[f64]) -> Vec<u8> {
     of_floats(numbers).to_vec()
@@ -139,9 +141,57 @@ fn weights_are_64_bytes() {
     }
 }
 
+/// Ragged, too short, too long, or no byte at all.
+#[test]
+fn a_tool_is_56_bytes() {
+    let lists = chain(&[13, 12]);
+    let bytes = floats(&UP.repeat(2));
+    for length in 0..=bytes.len() {
+        let answer = if length == 56 { 0 } else { 11 };
+        let found = bytes::set_tool(lists.sheet(), &bytes[..length], 0);
+        assert_eq!(found, answer, "{length} bytes");
+    }
+}
+
+/// What pose and reset answer. Only a call that was taken has written.
+fn end_answers(lists: &Lists, tools: Tools, room: usize) -> [u32; 2] {
+    let joints = floats(&[0.5, 0.5]);
+    let mut ends = floats(&vec![7.0; room]);
+    let (before, mut again) = (ends.clone(), ends.clone());
+    let mut history = floats(&[7.0; 8]);
+    let found = [
+        bytes::pose(lists.sheet(), tools, &joints, &mut ends),
+        bytes::reset(lists.sheet(), tools, &joints, &mut history, &mut again),
+    ];
+    assert_eq!([ends != before, again != before], found.map(|n| n == 0));
+    assert_eq!(history != floats(&[7.0; 8]), found[1] == 0);
+    found
+}
+
+/// A list of some bytes that is not of seven floats is wrong, and not none; one for
+/// a chain that is not loaded is wrong whatever it holds.
+#[test]
+fn only_an_empty_tool_is_none() {
+    let lists = chain(&[13, 12]);
+    let bytes = floats(&UP.repeat(2));
+    for (at, length) in (0..4).flat_map(|at| (0..=bytes.len()).map(move |n| (at, n))) {
+        let mut tools = NO_TOOLS;
+        tools[at] = &bytes[..length];
+        let answer = if length == 0 || at == 0 && length == 56 {
+            0
+        } else {
+            11
+        };
+        let found = end_answers(&lists, tools, 7);
+        assert_eq!(found, [answer; 2], "{length} bytes for chain {at}");
+        // 9 before 11.
+        assert_eq!(end_answers(&lists, tools, 6), [9; 2]);
+    }
+}
+
 #[cfg(feature = "objective")]
 mod objective {
-    use super::lists::{BUILT_IN, GOAL};
+    use super::lists::{BUILT_IN, GOAL, UP};
     use super::{chain, floats, u16s, Lists};
     use relaxed_ik::bytes::{gradient, gradient_finite_diff, gradient_one_block, objective};
     use relaxed_ik::bytes::{Given, Record};
@@ -152,6 +202,7 @@ mod objective {
         goals: Vec<u8>,
         history: Vec<u8>,
         weights: Vec<u8>,
+        tools: [Vec<u8>; 4],
         joints: Vec<u8>,
     }
 
@@ -161,6 +212,7 @@ mod objective {
             goals: floats(&GOAL),
             history: floats(&joints.repeat(4)),
             weights: Vec::new(),
+            tools: Default::default(),
             joints: floats(joints),
         }
     }
@@ -172,6 +224,7 @@ mod objective {
                 goals: &self.goals,
                 history: &self.history,
                 weights: &self.weights,
+                tools: self.tools.each_ref().map(Vec::as_slice),
             }
         }
     }
@@ -230,13 +283,14 @@ mod objective {
         assert_eq!(poses[8 * 63..], floats(&[9.0]));
     }
 
-    /// 7 before 8 before 9 before 10, and nothing written.
+    /// 7 before 8 before 9 before 10 before 11, and nothing written.
     #[test]
     fn a_refused_call_writes_nothing() {
         let mut lists = aimed(&[13, 12], &[0.5, 0.5]);
         let good = lists.goals.clone();
         lists.goals.pop();
         lists.weights = floats(&[1000.5; 8]);
+        lists.tools[1] = vec![0];
         lists.joints = floats(&[0.5, 8.0f64.next_up()]);
         let mut value = vec![1, 2, 3];
         let answer = objective(lists.given(), &lists.joints, &mut value);
@@ -247,12 +301,15 @@ mod objective {
         lists.goals = good;
         let answer = objective(lists.given(), &lists.joints, &mut value);
         assert_eq!((answer, value), (9, vec![1, 2, 3]));
-        let mut value = floats(&[7.0]);
-        let answer = objective(lists.given(), &lists.joints, &mut value);
-        assert_eq!((answer, value), (10, floats(&[7.0])));
+        for expected in [10, 11] {
+            let mut value = floats(&[7.0]);
+            let answer = objective(lists.given(), &lists.joints, &mut value);
+            assert_eq!((answer, value), (expected, floats(&[7.0])));
+            lists.weights = floats(&[1000.0; 8]);
+        }
     }
 
-    /// What each call on weights answers, with room for all that it writes. Only a
+    /// What each call on weights and tools answers, with room for all that it writes. Only a
     /// call that was taken has written.
     fn answers(lists: &Aimed) -> [u32; 4] {
         let (given, joints) = (lists.given(), &lists.joints[..]);
@@ -283,6 +340,27 @@ mod objective {
             lists.weights = bytes[..length].to_vec();
             let answer = if [0, 64].contains(&length) { 0 } else { 10 };
             assert_eq!(answers(&lists), [answer; 4], "{length} bytes");
+        }
+    }
+
+    /// As in pose and reset, which see one chain in the same way.
+    #[test]
+    fn only_an_empty_tool_is_none() {
+        let mut lists = aimed(&[13, 12], &[0.5, 0.5]);
+        let bytes = floats(&UP.repeat(2));
+        for (at, length) in (0..4).flat_map(|at| (0..=bytes.len()).map(move |n| (at, n))) {
+            lists.tools = Default::default();
+            lists.tools[at] = bytes[..length].to_vec();
+            let answer = if length == 0 || at == 0 && length == 56 {
+                0
+            } else {
+                11
+            };
+            assert_eq!(
+                answers(&lists),
+                [answer; 4],
+                "{length} bytes for chain {at}"
+            );
         }
     }
 }

@@ -4,7 +4,7 @@
 mod lists;
 
 use lists::{GOAL, UP};
-use relaxed_ik::{bytes, Given, RecordLists, Refusal, Sheet};
+use relaxed_ik::{bytes, Given, RecordLists, Refusal, Sheet, NO_TOOLS};
 
 /// Links up 1, at rest at the joints, handed to `test`.
 fn with(codes: &[u16], joints: &[f64], test: impl FnOnce(Given)) {
@@ -19,6 +19,7 @@ fn with(codes: &[u16], joints: &[f64], test: impl FnOnce(Given)) {
         goals: &GOAL,
         history: &joints.repeat(4),
         weights: &[],
+        tools: NO_TOOLS,
     });
 }
 
@@ -34,7 +35,7 @@ fn the_calls_agree() {
         assert_eq!(one, two);
         assert_eq!(one.slopes.len(), 3);
         assert_eq!(record.len(), given.sheet.plan().unwrap().entries);
-        let ends = given.sheet.poses(&joints).unwrap();
+        let ends = given.sheet.poses(NO_TOOLS, &joints).unwrap();
         assert_eq!(record[3].pose, ends[0]);
     });
 }
@@ -116,6 +117,7 @@ fn the_longest_record() {
         goals: &GOAL.repeat(4),
         history: &[0.1; 64],
         weights: &[],
+        tools: NO_TOOLS,
     };
     assert_eq!(sheet.plan().unwrap().entries, 296);
     let ask = |entries: usize| {

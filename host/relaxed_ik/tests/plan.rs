@@ -94,7 +94,7 @@ fn frames_take_what_is_planned_and_no_less() {
 #[cfg(feature = "objective")]
 #[test]
 fn the_record_takes_what_is_planned_and_no_less() {
-    use relaxed_ik::{Given, RecordLists};
+    use relaxed_ik::{Given, RecordLists, NO_TOOLS};
     for (lists, _) in arms() {
         let sheet = lists.sheet();
         let (plan, joints) = (sheet.plan().unwrap(), vec![0.1; sheet.joints()]);
@@ -103,6 +103,7 @@ fn the_record_takes_what_is_planned_and_no_less() {
             goals: &lists::GOAL.repeat(sheet.chains()),
             history: &joints.repeat(4),
             weights: &[],
+            tools: NO_TOOLS,
         };
         let ask = |less: [usize; 3]| {
             let record = RecordLists {

@@ -69,11 +69,19 @@ impl Text {
         self.line(&format!("\nchain {name}"));
     }
 
-    /// Displacement and offset, or as many numbers as there are.
     pub fn link(&mut self, code: u16, numbers: &[f64]) {
+        self.placed(&format!("link {}", code_words(code)), numbers);
+    }
+
+    /// Of the chain that was begun last.
+    pub fn tool(&mut self, numbers: &[f64]) {
+        self.placed("tool", numbers);
+    }
+
+    /// Displacement and offset, or as many numbers as there are.
+    fn placed(&mut self, words: &str, numbers: &[f64]) {
         let (displacement, offset) = numbers.split_at(numbers.len().min(3));
-        let code = code_words(code);
-        let words = format!("link {code:<13} {}   {}", row(displacement), row(offset));
+        let words = format!("{words:<18} {}   {}", row(displacement), row(offset));
         self.line(&words);
     }
 
@@ -144,6 +152,8 @@ mod tests {
         text.chain("arm");
         text.link(13, &[0.0, 0.5, 1.0, 1.0]);
         text.link(0, &[]);
+        text.tool(&[0.0, -0.5, 1.0, 1.0]);
+        text.tool(&[]);
         text.limits(&[-999.0, 999.0]);
         text.limits(&[-999.0, 999.0, f64::NAN]);
         text.numbers("joints", &[]);
@@ -156,6 +166,8 @@ sonde 1
 chain arm
 link revolute z    0 0.5 1   1
 link fixed
+tool               0 -0.5 1   1
+tool
 limits free
 limits -999 999 0x7ff8000000000000
 joints

@@ -7,6 +7,8 @@
 mod samples;
 
 use reference::groove::objective_master::ObjectiveMaster;
+use reference::spacetime::robot::Robot;
+use reference::tools::{self, Tools};
 use reference::{record, refusals, sheet, weights};
 use samples::{Arms, Chain, Sample};
 use sheet_text::{Text, PARTS};
@@ -39,6 +41,18 @@ struct Lists {
     codes: Vec<u16>,
     floats: Vec<f64>,
     limits: Vec<f64>,
+    /// By chain; an empty list for none.
+    tools: [Vec<f64>; tools::TOOLS],
+}
+
+impl Lists {
+    fn robot(&self) -> Robot {
+        sheet::robot(&self.sizes, &self.codes, &self.floats, &self.limits)
+    }
+
+    fn tools(&self) -> Tools {
+        tools::tools(&self.tools)
+    }
 }
 
 fn lists(chains: &[Chain]) -> Lists {
@@ -50,6 +64,9 @@ fn lists(chains: &[Chain]) -> Lists {
         codes: links().map(|link| link.code).collect(),
         floats: links().flat_map(|link| link.floats).collect(),
         limits: links().filter_map(|link| link.limits).flatten().collect(),
+        tools: std::array::from_fn(|at| {
+            chains.get(at).map_or(Vec::new(), |c| c.own_tool().to_vec())
+        }),
     }
 }
 
@@ -58,8 +75,7 @@ fn goals(sample: &Sample, lists: &Lists) -> Vec<f64> {
     let Some((joints, tolerances)) = &sample.goal else {
         return Vec::new();
     };
-    let robot = sheet::robot(&lists.sizes, &lists.codes, &lists.floats, &lists.limits);
-    let ends = sheet::ends(&robot, joints);
+    let ends = tools::ends(&lists.robot(), &lists.tools(), joints);
     let goals = ends.chunks_exact(7);
     goals
         .flat_map(|end| [end, &tolerances[..]].concat())
@@ -77,14 +93,17 @@ fn taken(sample: &Sample, lists: &Lists, goals: &[f64], history: &[f64]) -> bool
         limits: list(&lists.limits),
     };
     let room = refusals::Room::of(1);
+    let tools = lists.tools.each_ref().map(|tool| list(tool));
     if goals.is_empty() {
-        return refusals::manipulability(&sheet, list(joints), room) == refusals::ACCEPTED;
+        let ends = refusals::Room::of(sheet::END_FLOATS * sample.chains.len());
+        return refusals::pose(&sheet, &tools, list(joints), ends) == refusals::ACCEPTED;
     }
     let given = refusals::Given {
         sheet,
         goals: list(goals),
         history: list(history),
         weights: list(sample.own_weights()),
+        tools,
     };
     refusals::objective(&given, list(joints), room) == refusals::ACCEPTED
 }
@@ -130,7 +149,7 @@ fn good(sample: &Sample) -> String {
 /// print: the lengths of the reference run's own lists.
 fn arms(sample: &Arms) -> String {
     let lists = lists(&sample.chains);
-    let robot = sheet::robot(&lists.sizes, &lists.codes, &lists.floats, &lists.limits);
+    let robot = lists.robot();
     let joints = vec![0.0; robot.num_dofs];
     let (positions, rotations) = sheet::frames(&robot, &joints);
     let objectives = ObjectiveMaster::relaxed_ik(&robot.chain_lengths).objectives;
@@ -153,7 +172,7 @@ fn arms(sample: &Arms) -> String {
     text.finish()
 }
 
-/// Each joint's limits follow its link.
+/// Each joint's limits follow its link, the tool comes last.
 fn chain(text: &mut Text, chain: &Chain) {
     text.chain(chain.name);
     for link in &chain.links {
@@ -162,12 +181,15 @@ fn chain(text: &mut Text, chain: &Chain) {
             text.limits(&pair);
         }
     }
+    if let Some(tool) = &chain.tool {
+        text.tool(tool);
+    }
 }
 
 /// The reference run's figures.
 fn file(text: &mut Text, sample: &Sample, lists: &Lists, goals: &[f64], history: &[f64]) {
-    let robot = sheet::robot(&lists.sizes, &lists.codes, &lists.floats, &lists.limits);
-    let ends = sheet::ends(&robot, &sample.joints);
+    let (robot, tools) = (lists.robot(), lists.tools());
+    let ends = tools::ends(&robot, &tools, &sample.joints);
     for (chain, end) in sample.chains.iter().zip(ends.chunks_exact(7)) {
         for (part, v) in PARTS.iter().zip(end) {
             text.filed(&format!("{}.{part}", chain.name), *v);
@@ -179,6 +201,7 @@ fn file(text: &mut Text, sample: &Sample, lists: &Lists, goals: &[f64], history:
     );
     if !goals.is_empty() {
         let master = weights::master(&robot.chain_lengths, sample.own_weights());
+        let master = tools::with_tools(master, &tools);
         let vars = sheet::lent(robot, goals, history);
         let (value, slopes) = master.gradient(&sample.joints, &vars);
         text.filed("objective", value);

@@ -9,6 +9,22 @@ pub struct Link {
 pub struct Chain {
     pub name: &'static str,
     pub links: Vec<Link>,
+    pub tool: Option<[f64; 7]>,
+}
+
+impl Chain {
+    fn new(name: &'static str, links: Vec<Link>) -> Self {
+        Self {
+            name,
+            links,
+            tool: None,
+        }
+    }
+
+    /// As a call is lent it: an empty list for none.
+    pub fn own_tool(&self) -> &[f64] {
+        self.tool.as_ref().map_or(&[], |tool| tool)
+    }
 }
 
 pub struct Sample {
@@ -58,10 +74,14 @@ fn rig() -> Vec<Chain> {
         link(11, [0.0, 0.0, 0.1], STRAIGHT, wide),
         link(13, [0.0, 0.0, 0.3], STRAIGHT, [-3.1, 3.1]),
     ];
-    vec![Chain {
-        name: "boom",
-        links,
-    }]
+    vec![Chain::new("boom", links)]
+}
+
+/// The rig with a sonde on its flange, a little aside and at a slant.
+fn rig_with_sonde() -> Vec<Chain> {
+    let mut chains = rig();
+    chains[0].tool = Some([0.04, 0.0, 1.1, 0.96, 0.0, 0.28, 0.0]);
+    chains
 }
 
 /// Slides, turned offsets and an axis of none.
@@ -82,10 +102,7 @@ fn slides() -> Vec<Chain> {
         link(26, [0.0, 0.0, 0.2], STRAIGHT, FREE),
         link(14, [0.0, 0.0, 0.25], STRAIGHT, [-2.0, 2.0]),
     ];
-    vec![Chain {
-        name: "mast",
-        links,
-    }]
+    vec![Chain::new("mast", links)]
 }
 
 fn two_arms() -> Vec<Chain> {
@@ -93,14 +110,8 @@ fn two_arms() -> Vec<Chain> {
     let left = [13, 12, 12, 11, 12, 13].map(|code| link(code, [0.2, 0.1, 0.3], STRAIGHT, wide));
     let right = [13, 12, 0, 12].map(|code| link(code, [0.3, -0.4, 0.1], STRAIGHT, wide));
     vec![
-        Chain {
-            name: "left",
-            links: left.into(),
-        },
-        Chain {
-            name: "right",
-            links: right.into(),
-        },
+        Chain::new("left", left.into()),
+        Chain::new("right", right.into()),
     ]
 }
 
@@ -117,10 +128,7 @@ fn largest() -> Vec<Chain> {
             };
             link(code, [0.15, 0.0, 0.05], offset, [-3.0, 3.0])
         });
-        Chain {
-            name,
-            links: links.collect(),
-        }
+        Chain::new(name, links.collect())
     };
     let turns = [("north", 0.8), ("east", 0.0), ("south", 2.4), ("west", 1.6)];
     turns.into_iter().map(chain).collect()
@@ -182,12 +190,12 @@ pub fn good() -> Vec<Sample> {
             file: "at_rest",
             about: "Two links up and no goals. The axis is vertical: there is no azimuth.",
             hole: "Test stand, straight up",
-            chains: vec![Chain {
-                name: "arm",
-                links: [13, 12]
+            chains: vec![Chain::new(
+                "arm",
+                [13, 12]
                     .map(|code| link(code, [0.0, 0.0, 1.0], STRAIGHT, [-3.0, 3.0]))
                     .into(),
-            }],
+            )],
             joints: vec![0.0, 0.0],
             history: None,
             goal: None,
@@ -214,6 +222,17 @@ pub fn good() -> Vec<Sample> {
             history: Some([-0.01, -0.02, -0.04, -0.05].map(|by| beside(&rig_joints, by))),
             goal: Some((beside(&rig_joints, 0.002), [0.0, 0.0, 0.05, 0.1, 0.1, 3.2])),
             weights: Some([20.0, 60.0, 0.1, 0.7, 0.5, 0.3, 2.0, 0.25]),
+            filed: true,
+        },
+        Sample {
+            file: "sonde_on_flange",
+            about: "A sonde on the flange: goal, azimuth and inclination are those of its tip.",
+            hole: "Collar 24, sonde on the flange",
+            chains: rig_with_sonde(),
+            joints: rig_joints.clone(),
+            history: Some([-0.01, -0.02, -0.04, -0.05].map(|by| beside(&rig_joints, by))),
+            goal: Some((beside(&rig_joints, 0.002), [0.0, 0.0, 0.05, 0.1, 0.1, 3.2])),
+            weights: None,
             filed: true,
         },
     ]
@@ -253,6 +272,8 @@ enum Change {
     Away,
     /// This line before it.
     Before(&'static str),
+    /// This line after it.
+    After(&'static str),
     /// The last digit of the bits, which is then another one, and the decimal with it.
     LastBit,
 }
@@ -285,6 +306,10 @@ impl Bad {
                 told = last.map(|last| last + 1);
             }
             Change::Before(line) => lines.insert(at, line.to_string()),
+            Change::After(line) => {
+                lines.insert(at + 1, line.to_string());
+                told = Some(at + 2);
+            }
             Change::LastBit => {
                 let words: Vec<&str> = lines[at].split(' ').collect();
                 let bits = u64::from_str_radix(words[3], 16).expect("bits");
@@ -311,6 +336,13 @@ pub fn bad() -> Vec<Bad> {
         status,
         line: "goal",
         change: Change::Before(line),
+    };
+    // Behind the chain's last link and its limits.
+    let tool = |file, status, line| Bad {
+        file,
+        status,
+        line: "limits -3.1",
+        change: Change::After(line),
     };
     vec![
         Bad {
@@ -386,6 +418,25 @@ pub fn bad() -> Vec<Bad> {
             "weights 20 1000.5 0.1 0.7 0.5 0.3 2 0.25",
         ),
         before("refused_10_no_weights", 20, "weights"),
+        tool("refused_11_six_numbers", 21, "tool 0.04 0 1.1 0.96 0 0.28"),
+        tool("refused_11_no_numbers", 21, "tool"),
+        tool(
+            "refused_11_displacement",
+            21,
+            "tool 0.04 0 11 0.96 0 0.28 0",
+        ),
+        tool("refused_11_offset", 21, "tool 0.04 0 1.1 0.96 0 0.29 0"),
+        tool(
+            "text_tool_with_commas",
+            3,
+            "tool 0.04, 0, 1.1, 0.96, 0, 0.28, 0",
+        ),
+        Bad {
+            file: "text_tool_before_its_chain",
+            status: 3,
+            line: "chain",
+            change: Change::Before("tool 0.04 0 1.1 0.96 0 0.28 0"),
+        },
         before(
             "text_weights_with_commas",
             3,

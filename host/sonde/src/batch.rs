@@ -60,7 +60,22 @@ fn count(outcomes: &[Outcome], word: &str) -> usize {
     same.count()
 }
 
-fn row(outcome: &Outcome, width: usize) -> String {
+/// How many of the chains have a tool; of a sheet without any, nothing.
+fn tools(outcome: &Outcome) -> Option<String> {
+    let (_, work) = outcome.result.as_ref().ok()?;
+    let count = work.tools();
+    (count > 0).then(|| format!("{count}/{}", work.chains.len()))
+}
+
+/// The column of tools is there if any sheet has one.
+fn column(with_tools: bool, text: &str) -> String {
+    match with_tools {
+        true => format!(" {text:>6}"),
+        false => String::new(),
+    }
+}
+
+fn row(outcome: &Outcome, width: usize, with_tools: bool) -> String {
     let name = Path::new(&outcome.path).file_name();
     let name = name.map_or(outcome.path.clone(), |name| {
         name.to_string_lossy().into_owned()
@@ -81,8 +96,9 @@ fn row(outcome: &Outcome, width: usize) -> String {
             filed = format!("{agree}/{}", work.checks.len());
         }
     }
+    let tools = column(with_tools, &tools(outcome).unwrap_or_default());
     let text = format!(
-        "{name:<width$} {:<14} {azimuth:>8} {inclination:>11} {weights:>8} {filed:>7}  {}",
+        "{name:<width$} {:<14} {azimuth:>8} {inclination:>11} {weights:>8}{tools} {filed:>7}  {}",
         outcome.word(),
         outcome.note()
     );
@@ -90,7 +106,7 @@ fn row(outcome: &Outcome, width: usize) -> String {
 }
 
 /// A row a sheet, then the counts. Azimuth and inclination are the first
-/// chain's.
+/// chain's; of tools, how many chains have one.
 pub fn table(outcomes: &[Outcome]) -> String {
     let file = |outcome: &Outcome| {
         Path::new(&outcome.path)
@@ -98,11 +114,17 @@ pub fn table(outcomes: &[Outcome]) -> String {
             .map_or(0, |name| name.len())
     };
     let width = outcomes.iter().map(file).max().unwrap_or(0).max(5);
+    let with_tools = outcomes.iter().any(|outcome| tools(outcome).is_some());
+    let tools = column(with_tools, "tools");
     let mut lines = vec![format!(
-        "{:<width$} {:<14} {:>8} {:>11} {:>8} {:>7}  note",
+        "{:<width$} {:<14} {:>8} {:>11} {:>8}{tools} {:>7}  note",
         "sheet", "outcome", "azimuth", "inclination", "weights", "filed"
     )];
-    lines.extend(outcomes.iter().map(|outcome| row(outcome, width)));
+    lines.extend(
+        outcomes
+            .iter()
+            .map(|outcome| row(outcome, width, with_tools)),
+    );
     let counts = WORDS
         .iter()
         .map(|(word, several)| (count(outcomes, word), several));

@@ -28,13 +28,14 @@ sonde --version
   --svg FILE   draws the arm and its goals into FILE
   --batch DIR  every *.sheet of a folder, and a table of them
   --sizes      how long the lists are that a program reserves for the arms of
-               SHEET; limits, joints, goals and weights are read and not judged
+               SHEET; limits, joints, goals, weights and tools are read and not
+               judged
   --version    the program's version, and the proved library it is linked with
 
 exit status: 0 worked out, and every filed figure agrees (with --sizes: planned);
 1 a filed figure differs (with --batch: a sheet is not good); 2 a file or the
-command line cannot be used; 3 a fault in the text; 11 to 18 and 20 refused by
-the library, with number 1 to 8 and 10";
+command line cannot be used; 3 a fault in the text; 11 to 18, 20 and 21 refused
+by the library, with number 1 to 8, 10 and 11";
 
 #[derive(Debug, Default, PartialEq)]
 struct Options {
@@ -270,6 +271,8 @@ mod tests {
             "history",
             "weights",
             "1000.5",
+            "tool",
+            "tool 0 0 0.5 1 0 0 0",
         ];
         let mut met = std::collections::BTreeMap::new();
         for _ in 0..4000 {
@@ -309,7 +312,7 @@ mod tests {
             // What a sheet is refused for in its arms, sizing tells as well.
             match outcome.status() {
                 status @ (11..=14 | 16) => assert_eq!(planned.status(), status, "{text}"),
-                0 | 1 | 17 | 18 | 20 => assert_eq!(planned.status(), GOOD, "{text}"),
+                0 | 1 | 17 | 18 | 20 | 21 => assert_eq!(planned.status(), GOOD, "{text}"),
                 _ => {}
             }
             if let Ok((file, work)) = &outcome.result {
@@ -318,7 +321,7 @@ mod tests {
             *met.entry(outcome.status()).or_insert(0) += 1;
         }
         // Every status but 2 can come of a text.
-        for status in [0, 1, 3, 11, 12, 13, 14, 15, 16, 17, 18, 20] {
+        for status in [0, 1, 3, 11, 12, 13, 14, 15, 16, 17, 18, 20, 21] {
             assert!(met.contains_key(&status), "{status}: {met:?}");
         }
     }

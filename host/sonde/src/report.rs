@@ -1,7 +1,7 @@
 //! What is said of a sheet: in words, or as JSON for programs.
 
 use crate::text::{File, PARTS};
-use crate::work::{part_of, with_bits, Fault, Verdict, Work, HAS_OBJECTIVE};
+use crate::work::{part_of, with_bits, ChainWork, Fault, Verdict, Work, HAS_OBJECTIVE};
 use relaxed_ik::WEIGHTS;
 use std::fmt::Write as _;
 
@@ -28,7 +28,7 @@ impl Problem {
         match self {
             Self::Unreadable(_) => UNUSABLE,
             Self::Fault(Fault::Text(_)) => TEXT_FAULT,
-            // The numbers are 1 to 10.
+            // The numbers are 1 to 11.
             Self::Fault(Fault::Refused { refusal, .. }) => REFUSED + refusal.number() as u8,
         }
     }
@@ -133,26 +133,7 @@ impl Outcome {
         };
         let mut out = title(file, &self.path);
         for chain in &work.chains {
-            let (links, joints) = (chain.codes.len(), chain.joints);
-            let _ = writeln!(
-                out,
-                "\nchain {}: {links} links, {joints} joints; its end",
-                chain.name
-            );
-            for (part, name) in PARTS.iter().enumerate() {
-                line(&mut out, name, part_of(&chain.end, part));
-            }
-            let azimuth = match chain.direction.azimuth {
-                Some(degrees) => format!("{degrees:.6} degrees clockwise from north"),
-                None => "none, the axis is vertical".to_string(),
-            };
-            let _ = writeln!(out, "  {:<16} {azimuth}", "azimuth");
-            let inclination = chain.direction.inclination;
-            let _ = writeln!(
-                out,
-                "  {:<16} {inclination:.6} degrees from straight down",
-                "inclination"
-            );
+            chain_text(&mut out, chain);
         }
         let _ = writeln!(out, "\nthe sheet as a whole");
         line(&mut out, "manipulability", work.manipulability);
@@ -198,6 +179,40 @@ fn line(out: &mut String, name: &str, v: f64) {
     let _ = writeln!(out, "  {name:<16} {v:<24} {:016x}", v.to_bits());
 }
 
+/// A chain's end, its direction, and its tool.
+fn chain_text(out: &mut String, chain: &ChainWork) {
+    let (links, joints) = (chain.codes.len(), chain.joints);
+    let end = match chain.tool {
+        Some(_) => ", a tool; its end, the tool's tip",
+        None => "; its end",
+    };
+    let _ = writeln!(
+        out,
+        "\nchain {}: {links} links, {joints} joints{end}",
+        chain.name
+    );
+    for (part, name) in PARTS.iter().enumerate() {
+        line(out, name, part_of(&chain.end, part));
+    }
+    let azimuth = match chain.direction.azimuth {
+        Some(degrees) => format!("{degrees:.6} degrees clockwise from north"),
+        None => "none, the axis is vertical".to_string(),
+    };
+    let _ = writeln!(out, "  {:<16} {azimuth}", "azimuth");
+    let inclination = chain.direction.inclination;
+    let _ = writeln!(
+        out,
+        "  {:<16} {inclination:.6} degrees from straight down",
+        "inclination"
+    );
+    if chain.tool.is_some() {
+        let _ = writeln!(out, "  {:<16} sheet", "tool");
+    }
+    for (name, v) in named_tool(chain) {
+        line(out, &format!("  {name}"), v);
+    }
+}
+
 /// Whose weights the objective was summed by; of no objective, nobody's.
 pub fn weights_from(file: &File, work: &Work) -> Option<&'static str> {
     work.objective.as_ref()?;
@@ -211,6 +226,13 @@ pub fn weights_from(file: &File, work: &Work) -> Option<&'static str> {
 fn named_weights(file: &File) -> impl Iterator<Item = (&'static str, f64)> + '_ {
     let numbers = file.weights.iter().flat_map(|row| &row.numbers);
     WEIGHTS.into_iter().zip(numbers.copied())
+}
+
+/// The tool by displacement and offset, named as the parts of an end pose; nothing of
+/// a chain without one.
+fn named_tool(chain: &ChainWork) -> impl Iterator<Item = (&'static str, f64)> + '_ {
+    let numbers = chain.tool.iter().flatten();
+    PARTS.into_iter().zip(numbers.copied())
 }
 
 fn objective_text(file: &File, work: &Work) -> String {
@@ -337,19 +359,27 @@ pub fn head_json(
 }
 
 fn work_json(file: &File, work: &Work) -> Vec<(&'static str, String)> {
-    let chain = |chain: &crate::work::ChainWork| {
+    let chain = |chain: &ChainWork| {
         let parts = PARTS.iter().enumerate();
         let end: Vec<_> = parts
             .map(|(part, name)| (*name, float(part_of(&chain.end, part))))
             .collect();
-        object(&[
+        let mut fields = vec![
             ("name", string(&chain.name)),
             ("links", chain.codes.len().to_string()),
             ("joints", chain.joints.to_string()),
             ("end", object(&end)),
             ("azimuth", optional(chain.direction.azimuth.map(plain))),
             ("inclination", plain(chain.direction.inclination)),
-        ])
+        ];
+        // Only where there is one: a sheet without tools is told as ever.
+        if chain.tool.is_some() {
+            let tool: Vec<_> = named_tool(chain)
+                .map(|(name, v)| (name, float(v)))
+                .collect();
+            fields.push(("tool", object(&tool)));
+        }
+        object(&fields)
     };
     let slopes = work.objective.as_ref();
     let slopes = slopes.map(|found| array(found.slopes.iter().map(|v| float(*v))));

@@ -307,6 +307,31 @@ fn chain(
     }
 }
 
+/// A cross, which shows beside the mark of the link that ends there.
+fn flange(out: &mut String, [x, y]: [f64; 2]) {
+    let style = "stroke=\"#222\" stroke-width=\"2\"";
+    for rise in [-7.0, 7.0] {
+        line(out, [x - 7.0, y - rise], [x + 7.0, y + rise], style);
+    }
+}
+
+/// A hollow line, where links are full ones, and a dot at its tip.
+fn tool_line(out: &mut String, flange: [f64; 2], tip: [f64; 2], colour: &str) {
+    for (colour, width) in [(colour, 6), ("white", 3)] {
+        let style =
+            format!("stroke=\"{colour}\" stroke-width=\"{width}\" stroke-linecap=\"round\"");
+        line(out, flange, tip, &style);
+    }
+    mark(out, tip, 0, colour);
+}
+
+/// From the flange to the tip, which is the end.
+fn tool(out: &mut String, view: &View, chain: &ChainWork, colour: &str) {
+    let at = view.place(chain.flange());
+    tool_line(out, at, view.place(chain.end.position), colour);
+    flange(out, at);
+}
+
 /// The sonde's axis at a ninth of the panel, and its azimuth as a ray, which
 /// can be seen however steep the axis is.
 fn axis(out: &mut String, view: &View, chain: &ChainWork, from_above: bool) {
@@ -320,6 +345,22 @@ fn axis(out: &mut String, view: &View, chain: &ChainWork, from_above: bool) {
     }
     let tip = add(end, chain.direction.axis, PANEL / 9.0 / view.scale);
     arrow(out, start, view.place(tip), "#222");
+}
+
+/// What is drawn of a tool, if there is one.
+fn tool_legend(out: &mut String, x: f64, y: f64) {
+    let style = "font-size=\"12\" fill=\"#222\"";
+    flange(out, [x + 6.0, y - 4.0]);
+    words(
+        out,
+        [x + 22.0, y],
+        style,
+        "flange, where the last link ends",
+    );
+    let line = x + 236.0;
+    tool_line(out, [line, y - 4.0], [line + 26.0, y - 4.0], "#555");
+    let text = "tool, from the flange to its tip, which is the end";
+    words(out, [line + 36.0, y], style, text);
 }
 
 /// What the marks mean, and the chains by name with their directions.
@@ -382,6 +423,10 @@ fn legend(out: &mut String, work: &Work) -> f64 {
     line(out, [ray, off], [ray + 26.0, off], dashed);
     words(out, [ray + 32.0, second], style, "its azimuth, from above");
     let mut y = second;
+    if work.tools() > 0 {
+        y += 22.0;
+        tool_legend(out, at, y);
+    }
     for (chain, colour) in work.chains.iter().zip(COLOURS) {
         y += 22.0;
         line(
@@ -394,9 +439,14 @@ fn legend(out: &mut String, work: &Work) -> f64 {
             Some(degrees) => format!("azimuth {degrees:.2}°"),
             None => "no azimuth, the axis is vertical".to_string(),
         };
-        let [x, north, z] = chain.end.position;
+        let at_point = |[x, north, z]: [f64; 3]| format!("at {x:.4}, {north:.4}, {z:.4}");
+        let end = at_point(chain.end.position);
+        let end = match chain.tool {
+            Some(_) => format!("tip {end}, flange {}", at_point(chain.flange())),
+            None => format!("end {end}"),
+        };
         let text = format!(
-            "{}: {azimuth}, inclination {:.2}° from straight down; end at {x:.4}, {north:.4}, {z:.4}",
+            "{}: {azimuth}, inclination {:.2}° from straight down; {end}",
             chain.name, chain.direction.inclination
         );
         words(out, [at + 22.0, y], style, &text);
@@ -426,6 +476,7 @@ pub fn draw(hole: &str, work: &Work) -> String {
     let mut points = vec![[0.0; 3]];
     for chain in &work.chains {
         points.extend(&chain.frames.positions);
+        points.push(chain.end.position);
         if let Some(goal) = &chain.goal {
             // With its tolerances, as far as they are not out of all proportion.
             for sign in [-1.0, 1.0] {
@@ -489,6 +540,9 @@ pub fn draw(hole: &str, work: &Work) -> String {
         for (own, colour) in work.chains.iter().zip(COLOURS) {
             chain(&mut body, view, own, colour, first, &mut taken);
             first += own.joints;
+            if own.tool.is_some() {
+                tool(&mut body, view, own, colour);
+            }
         }
         for (own, colour) in work.chains.iter().zip(COLOURS) {
             if let Some(floats) = &own.goal {
@@ -526,5 +580,29 @@ mod tests {
         let drawing = draw(&file.hole, &work::work(&file).unwrap());
         assert!(drawing.contains("&lt;a&gt; &amp; &quot;b&quot;"));
         assert!(!drawing.contains("NaN") && !drawing.contains("inf\""));
+        assert!(!drawing.contains("flange"), "there is no tool");
+    }
+
+    /// The picture reaches to the tip, and the flange has a mark in both views and in
+    /// the legend.
+    #[test]
+    fn a_tool_is_told_apart() {
+        let sheet = "sonde 1\nchain arm\nlink revolute z 0 0 1 1 0 0 0\n\
+                     link revolute x 0 0 1 1 0 0 0\nTOOL\nlimits free\nlimits free\njoints 0 0\n";
+        let drawn = |tool: &str| {
+            let file = text::parse(sheet.replace("TOOL", tool).as_bytes()).unwrap();
+            draw(&file.hole, &work::work(&file).unwrap())
+        };
+        let (without, with) = (drawn(""), drawn("tool 0.5 0 9 1 0 0 0"));
+        for (word, count) in [
+            ("tip at 0.5000, 0.0000, 11.0000", 1),
+            ("flange at 0.0000, 0.0000, 2.0000", 1),
+            ("white\" stroke-width=\"3\" stroke-linecap", 3),
+        ] {
+            assert_eq!(with.matches(word).count(), count, "{word}");
+            assert_eq!(without.matches(word).count(), 0, "{word}");
+        }
+        // Eight to the span and some: the height axis goes up to ten.
+        assert!(with.contains(">10</text>") && !without.contains(">10</text>"));
     }
 }

@@ -2,7 +2,7 @@
 //! possible is judged here: lists of any length and numbers of any size go on
 //! to the library, which refuses by number what it does not take.
 
-use relaxed_ik::Sheet;
+use relaxed_ik::{Sheet, Tools};
 use std::fmt;
 
 /// A file larger than this is no sheet.
@@ -57,6 +57,7 @@ pub struct Chain {
     pub line: usize,
     pub name: String,
     pub links: Vec<Link>,
+    pub tool: Option<Row>,
 }
 
 impl Chain {
@@ -121,6 +122,8 @@ pub struct Lists {
     pub history: Vec<f64>,
     pub goals: Vec<f64>,
     pub weights: Vec<f64>,
+    /// One a chain, empty for none.
+    pub tools: Vec<Vec<f64>>,
 }
 
 impl Lists {
@@ -131,6 +134,12 @@ impl Lists {
             floats: &self.floats,
             limits: &self.limits,
         }
+    }
+
+    /// As the calls are lent them, by the number of a chain, of which a sheet that is
+    /// taken has no more.
+    pub fn tools(&self) -> Tools<'_> {
+        std::array::from_fn(|chain| self.tools.get(chain).map_or(&[][..], Vec::as_slice))
     }
 }
 
@@ -171,7 +180,18 @@ impl File {
             history: all(&self.history),
             goals: all(&self.goals),
             weights: all(self.weights.as_slice()),
+            tools: self
+                .chains
+                .iter()
+                .map(|chain| all(chain.tool.as_slice()))
+                .collect(),
         }
+    }
+
+    /// The tools that the sheet has, each with its chain and the chain's number.
+    pub fn tools(&self) -> impl Iterator<Item = (usize, &Chain, &Row)> {
+        let numbered = self.chains.iter().enumerate();
+        numbered.filter_map(|(at, chain)| Some((at, chain, chain.tool.as_ref()?)))
     }
 
     /// A line too long whose neighbour is too short by as much: the library sees
@@ -411,11 +431,21 @@ pub fn parse(bytes: &[u8]) -> Read<File> {
                     line,
                     name,
                     links: Vec::new(),
+                    tool: None,
                 });
             }
             "link" => match file.chains.last_mut() {
                 Some(chain) => chain.links.push(link(line, rest)?),
                 None => return fault(line, "a link before the first chain"),
+            },
+            "tool" => match file.chains.last_mut() {
+                Some(Chain {
+                    name,
+                    tool: Some(_),
+                    ..
+                }) => return fault(line, format!("a second tool of chain {name}")),
+                Some(chain) => chain.tool = Some(row(line, rest)?),
+                None => return fault(line, "a tool before the first chain"),
             },
             "limits" => file.limits.push(limits(line, rest)?),
             "joints" => file.joints.push(row(line, rest)?),
@@ -489,6 +519,20 @@ filed slope.1 -0 8000000000000000
         assert!(file.uneven().is_none());
     }
 
+    /// A tool is lent by the number of its chain, whichever others have none.
+    #[test]
+    fn a_tool_is_its_chains() {
+        let two = GOOD.replace("joints", "chain jib\ntool 0 0 1  0 1 0 0\njoints");
+        let file = parse(two.as_bytes()).unwrap();
+        let found: Vec<_> = file
+            .tools()
+            .map(|(at, chain, _)| (at, &chain.name))
+            .collect();
+        assert_eq!(found, [(1, &"jib".to_string())]);
+        let tool = [0.0, 0.0, 1.0, 0.0, 1.0, 0.0, 0.0];
+        assert_eq!(file.lists().tools(), [&[][..], &tool, &[], &[]]);
+    }
+
     /// Line ends of either kind, and a byte order mark.
     #[test]
     fn other_line_ends_are_read() {
@@ -512,6 +556,19 @@ filed slope.1 -0 8000000000000000
             ("0x3ff0000000000000", "0x3ff", 10, "16 hexadecimal"),
             ("20 60", "20, 60", 12, "not a number: 20,"),
             ("20 60", "20\nweights 60", 13, "a second line of weights"),
+            ("joints", "tool 0 0 ,5\njoints", 10, "not a number: ,5"),
+            (
+                "joints",
+                "tool\ntool\njoints",
+                11,
+                "a second tool of chain mast",
+            ),
+            (
+                "chain mast",
+                "tool 0\nchain mast",
+                4,
+                "a tool before the first chain",
+            ),
             ("mast.x", "mast.v", 13, "no figure"),
             ("mast.x", "boom.x", 13, "no chain named boom"),
             ("1.5 3ff8", "1.25 3ff8", 13, "the bits are those of 1.5"),

@@ -37,6 +37,7 @@ pub fn find(refusal: Refusal, file: &File) -> Option<Place> {
         Refusal::Joints => blocks(file),
         Refusal::Goals => goals(file),
         Refusal::Weights => weights(file),
+        Refusal::Tool => tools(file),
         _ => None,
     }
 }
@@ -61,12 +62,21 @@ fn sizes(file: &File) -> Option<Place> {
 fn lengths(file: &File) -> Option<Place> {
     let mut links = file.links();
     let (chain, link_at, link) = links.find(|(_, _, link)| link.row.numbers.len() != 7)?;
-    let (name, found) = (&chain.name, link.row.numbers.len());
+    seven(
+        &format!("link {link_at} of chain {}", chain.name),
+        &link.row,
+    )
+}
+
+/// A link's numbers or a tool's, if they are not seven.
+fn seven(what: &str, row: &Row) -> Option<Place> {
+    let found = row.numbers.len();
+    if found == 7 {
+        return None;
+    }
     at(
-        link.row.line,
-        format!(
-            "link {link_at} of chain {name} has {found} numbers, 7 are needed: displacement x y z, offset w i j k"
-        ),
+        row.line,
+        format!("{what} has {found} numbers, 7 are needed: displacement x y z, offset w i j k"),
     )
 }
 
@@ -148,25 +158,33 @@ fn limits(file: &File) -> Option<Place> {
 }
 
 fn links(file: &File) -> Option<Place> {
-    for (chain, link_at, link) in file.links() {
-        let (name, numbers) = (&chain.name, &link.row.numbers);
-        for (axis, v) in ["x", "y", "z"].iter().zip(numbers) {
-            if !within(*v, -10.0, 10.0) {
-                return at(
-                    link.row.line,
-                    format!("link {link_at} of chain {name}: displacement {axis} is {v}, not within -10..10"),
-                );
-            }
-        }
-        let sum = squares(numbers.get(3..7)?);
-        if !within(sum, LEAST_SQUARES, MOST_SQUARES) {
+    let mut links = file.links();
+    links.find_map(|(chain, link_at, link)| {
+        ranged(
+            &format!("link {link_at} of chain {}", chain.name),
+            &link.row,
+        )
+    })
+}
+
+/// The first of a link's seven numbers or a tool's that is out of range.
+fn ranged(what: &str, row: &Row) -> Option<Place> {
+    for (axis, v) in ["x", "y", "z"].iter().zip(&row.numbers) {
+        if !within(*v, -10.0, 10.0) {
             return at(
-                link.row.line,
-                format!("link {link_at} of chain {name}: the squares of its offset sum to {sum}, not within {LEAST_SQUARES}..{MOST_SQUARES}"),
+                row.line,
+                format!("{what}: displacement {axis} is {v}, not within -10..10"),
             );
         }
     }
-    None
+    let sum = squares(row.numbers.get(3..7)?);
+    if within(sum, LEAST_SQUARES, MOST_SQUARES) {
+        return None;
+    }
+    at(
+        row.line,
+        format!("{what}: the squares of its offset sum to {sum}, not within {LEAST_SQUARES}..{MOST_SQUARES}"),
+    )
 }
 
 fn values(rows: &[Row]) -> impl Iterator<Item = (usize, f64)> + '_ {
@@ -288,4 +306,11 @@ fn weights(file: &File) -> Option<Place> {
         row.line,
         format!("the weight of {name} is {v}, not within 0..1000"),
     )
+}
+
+fn tools(file: &File) -> Option<Place> {
+    file.tools().find_map(|(_, chain, row)| {
+        let what = format!("the tool of chain {}", chain.name);
+        seven(&what, row).or_else(|| ranged(&what, row))
+    })
 }

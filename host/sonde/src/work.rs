@@ -60,6 +60,16 @@ pub struct ChainWork {
     pub frames: Frames,
     /// 13 floats, if the sheet has goals.
     pub goal: Option<Vec<f64>>,
+    /// Displacement, then offset w first, if the chain has one. Its tip is then the end.
+    pub tool: Option<Vec<f64>>,
+}
+
+impl ChainWork {
+    /// Where the last link ends.
+    pub fn flange(&self) -> [f64; 3] {
+        let last = self.frames.positions.last();
+        *last.expect("a base, if nothing else")
+    }
 }
 
 #[derive(Clone, Debug, PartialEq)]
@@ -117,6 +127,14 @@ impl Fault {
 }
 
 impl Work {
+    /// Chains with a tool.
+    pub fn tools(&self) -> usize {
+        self.chains
+            .iter()
+            .filter(|chain| chain.tool.is_some())
+            .count()
+    }
+
     pub fn count(&self, wanted: impl Fn(&Verdict) -> bool) -> usize {
         let verdicts = self.checks.iter().map(|check| &check.verdict);
         verdicts.filter(|verdict| wanted(verdict)).count()
@@ -189,7 +207,8 @@ fn degrees(computed: Option<f64>, figure: &Figure) -> Verdict {
     }
 }
 
-/// By the weights of the lists, or the built-in ones if they have none.
+/// By the weights of the lists, or the built-in ones if they have none, and at the
+/// tips of their tools.
 #[cfg(feature = "objective")]
 fn objective(lists: &Lists, history: &[f64]) -> Result<Option<Slopes>, Refusal> {
     let given = relaxed_ik::Given {
@@ -197,6 +216,7 @@ fn objective(lists: &Lists, history: &[f64]) -> Result<Option<Slopes>, Refusal> 
         goals: &lists.goals,
         history,
         weights: &lists.weights,
+        tools: lists.tools(),
     };
     let (found, _) = given.gradient_one_block(&lists.joints)?;
     Ok(Some(Slopes {
@@ -210,29 +230,40 @@ fn objective(_: &Lists, _: &[f64]) -> Result<Option<Slopes>, Refusal> {
     Ok(None)
 }
 
-/// Asks the library for everything. Its calls look at everything they are lent,
-/// lowest number first, and are asked in the order of their own numbers: the
-/// sheet, joints and history, goals, weights.
-fn answered(file: &File, lists: &Lists) -> Result<Work, Refusal> {
+/// Has everything looked at that a sheet may be without.
+fn looked_at(file: &File, lists: &Lists) -> Result<(), Refusal> {
     let sheet = lists.sheet();
-    sheet.load()?;
-    let ends = sheet.poses(&lists.joints)?;
-    let frames = sheet.frames(&lists.joints)?;
-    let manipulability = sheet.manipulability(&lists.joints)?;
-    let history = if file.history.is_empty() {
-        sheet.reset(&lists.joints)?.history
-    } else {
-        // Only to have it looked at.
+    if !file.history.is_empty() {
         sheet.update(&lists.history, &lists.joints)?;
-        lists.history.clone()
-    };
+    }
     if !file.goals.is_empty() {
         sheet.set_goals(&lists.goals)?;
     }
-    // A line of no number is not the same as no line, which the objective cannot tell.
+    // A line of no number is not the same as no line, which the calls that use weights
+    // and tools cannot tell.
     if file.weights.is_some() {
         relaxed_ik::set_weights(&lists.weights)?;
     }
+    for (chain, _, tool) in file.tools() {
+        sheet.set_tool(chain as u32, &tool.numbers)?;
+    }
+    Ok(())
+}
+
+/// Asks the library for everything. Its calls look at everything they are lent,
+/// lowest number first, and are asked in the order of their own numbers: the
+/// sheet, joints and history, goals, weights, tools.
+fn answered(file: &File, lists: &Lists) -> Result<Work, Refusal> {
+    let sheet = lists.sheet();
+    sheet.load()?;
+    let frames = sheet.frames(&lists.joints)?;
+    let manipulability = sheet.manipulability(&lists.joints)?;
+    looked_at(file, lists)?;
+    let ends = sheet.poses(lists.tools(), &lists.joints)?;
+    let history = match file.history.is_empty() {
+        true => sheet.reset(lists.tools(), &lists.joints)?.history,
+        false => lists.history.clone(),
+    };
     let objective = match file.goals.is_empty() {
         true => None,
         false => objective(lists, &history)?,
@@ -246,6 +277,7 @@ fn answered(file: &File, lists: &Lists) -> Result<Work, Refusal> {
         end,
         frames,
         goal: file.goals.get(at).map(|row| row.numbers.clone()),
+        tool: chain.tool.as_ref().map(|row| row.numbers.clone()),
     });
     Ok(Work {
         chains: chains.collect(),
@@ -388,6 +420,27 @@ filed arm.z 2 4000000000000000
         assert_eq!(found.checks[0].verdict, came);
     }
 
+    /// The end is the tip, and where the last link ends stays; a wrong tool is told
+    /// behind everything else.
+    #[test]
+    fn a_tool_moves_the_end() {
+        let found = work(&spoiled("joints", "tool 0.5 0 1  0 1 0 0\njoints")).unwrap();
+        let chain = &found.chains[0];
+        assert_eq!(chain.end.position, [0.5, 0.0, 3.0]);
+        assert_eq!(chain.end.rotation, [0.0, 1.0, 0.0, 0.0]);
+        assert_eq!(chain.flange(), [0.0, 0.0, 2.0]);
+        assert_eq!(chain.direction.inclination, 0.0, "upside down");
+        assert_eq!(found.differing(), 1, "arm.z is filed of the flange");
+        for (number, words) in [
+            (7, "joints 9"),
+            (8, "joints 0 0\ngoal 1"),
+            (10, "joints 0 0\nweights 1"),
+        ] {
+            let file = spoiled("joints 0 0", &format!("tool 1\n{words}"));
+            assert_eq!(told(work(&file).unwrap_err()).0, number);
+        }
+    }
+
     /// Neither limits nor joints nor goals are asked for, nor looked at.
     #[test]
     fn arms_alone_have_a_plan() {
@@ -467,6 +520,34 @@ filed arm.z 2 4000000000000000
                 9,
                 "the weight of pairs is NaN",
             ),
+            (
+                "joints",
+                "tool 0 0 1\njoints",
+                11,
+                7,
+                "arm has 3 numbers, 7",
+            ),
+            (
+                "joints",
+                "tool # none\njoints",
+                11,
+                7,
+                "arm has 0 numbers, 7",
+            ),
+            (
+                "joints",
+                "tool 0 0 10.5 1 0 0 0\njoints",
+                11,
+                7,
+                "the tool of chain arm: displacement z is 10.5",
+            ),
+            (
+                "joints",
+                "tool 0 0 1 1 0 0 nan\njoints",
+                11,
+                7,
+                "the tool of chain arm: the squares of its offset sum to NaN",
+            ),
         ] {
             let file = spoiled(good, bad);
             let (found, at, said) = told(work(&file).unwrap_err());
@@ -475,7 +556,7 @@ filed arm.z 2 4000000000000000
             // Sizing tells the same of the arms, and looks at nothing else.
             match plan(&file) {
                 Err(fault) => assert_eq!(told(fault), (found, at, said)),
-                Ok(_) => assert!([5, 7, 8, 10].contains(&number), "{bad}"),
+                Ok(_) => assert!([5, 7, 8, 10, 11].contains(&number), "{bad}"),
             }
         }
         let far = format!("{TWO}filed slope.2 0 0000000000000000\n");

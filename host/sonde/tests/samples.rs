@@ -105,7 +105,7 @@ fn bad_sheets_end_as_they_say() {
         assert!(text.contains(&format!("{place}: ")), "{text}");
         statuses.push(output.status.code().unwrap());
     }
-    for number in (1..=8).chain([10]) {
+    for number in (1..=8).chain([10, 11]) {
         assert!(
             statuses.contains(&(10 + number)),
             "no sheet refused by {number}"
@@ -197,31 +197,109 @@ fn weights_are_told() {
     assert_eq!(met.len(), 3, "a sheet of each kind");
 }
 
+/// A good sheet with another line in place of the one that begins with this word: the
+/// figures that then differ, and those that are filed.
+#[cfg(feature = "objective")]
+fn differing(sheet: &str, word: &str, other: &str) -> (Vec<String>, Vec<String>) {
+    let text = fs::read_to_string(folder("good").join(sheet)).unwrap();
+    let line = text.lines().find(|line| line.starts_with(word)).unwrap();
+    let figures = text.lines().filter_map(|line| line.strip_prefix("filed "));
+    let figures = figures.map(|figure| figure.split(' ').next().unwrap().to_string());
+    let name = format!("{word}{}{sheet}", other.len());
+    let file = Path::new(env!("CARGO_TARGET_TMPDIR")).join(name);
+    fs::write(&file, text.replacen(line, other, 1)).unwrap();
+    let output = sonde(&[file.to_str().unwrap()]);
+    assert_eq!(output.status.code(), Some(1));
+    let said = said(&output);
+    let differ = said.lines().filter(|line| line.starts_with("DIFFERS"));
+    let differ = differ.map(|line| line.rsplit(' ').next().unwrap().to_string());
+    (differ.collect(), figures.collect())
+}
+
 /// The filed objective and slopes are those of the weights: with others, and with
 /// the built-in ones, they differ, and nothing else does.
 #[cfg(feature = "objective")]
 #[test]
 fn weights_act_on_the_objective_alone() {
-    let path = folder("good").join("granite.sheet");
-    let sheet = fs::read_to_string(path).unwrap();
-    let line = sheet.lines().find(|line| line.starts_with("weights "));
-    let line = line.unwrap();
-    let of_weights = |figure: &str| figure == "objective" || figure.starts_with("slope.");
-    let figures = sheet.lines().filter_map(|line| line.strip_prefix("filed "));
-    let figures = figures.map(|figure| figure.split(' ').next().unwrap());
-    let expected: Vec<&str> = figures.filter(|figure| of_weights(figure)).collect();
-    for (name, other) in [("none", ""), ("ones", "weights 1 1 1 1 1 1 1 1")] {
-        let file = Path::new(env!("CARGO_TARGET_TMPDIR")).join(format!("{name}.sheet"));
-        fs::write(&file, sheet.replacen(line, other, 1)).unwrap();
-        let output = sonde(&[file.to_str().unwrap()]);
-        assert_eq!(output.status.code(), Some(1));
-        let text = said(&output);
-        let differ = text.lines().filter(|line| line.starts_with("DIFFERS"));
-        let differ: Vec<&str> = differ
-            .map(|line| line.rsplit(' ').next().unwrap())
-            .collect();
-        assert_eq!(differ, expected);
+    let of_weights = |figure: &String| figure == "objective" || figure.starts_with("slope.");
+    for other in ["", "weights 1 1 1 1 1 1 1 1"] {
+        let (differ, mut filed) = differing("granite.sheet", "weights", other);
+        filed.retain(of_weights);
+        assert_eq!(differ, filed);
     }
+}
+
+/// With another tool, and with none, everything that is filed differs but the
+/// manipulability; with one that reaches elsewhere and turns the same, the rotation
+/// and its two angles stay, too.
+#[cfg(feature = "objective")]
+#[test]
+fn a_tool_acts_on_all_but_the_manipulability() {
+    let turned = |figure: &String| {
+        let part = figure.strip_prefix("boom.").unwrap_or_default();
+        ["w", "i", "j", "k", "azimuth", "inclination"].contains(&part)
+    };
+    for (other, turns) in [
+        ("", true),
+        ("tool 0 0.1 0.9 0.8 0 0 0.6", true),
+        ("tool 0 0.1 0.9 0.96 0 0.28 0", false),
+    ] {
+        let (differ, mut filed) = differing("sonde_on_flange.sheet", "tool", other);
+        filed.retain(|figure| figure != "manipulability" && (turns || !turned(figure)));
+        assert_eq!(differ, filed, "{other}");
+    }
+}
+
+/// The numbers of a tool's line stand by their names in words and in the JSON.
+fn tool_is_told(line: &str, text: &str, json: &str) {
+    assert!(text.contains("; its end, the tool's tip\n"), "{text}");
+    let rows = text.lines().skip_while(|row| !row.starts_with("  tool "));
+    let rows: Vec<Vec<&str>> = rows.map(|row| row.split_whitespace().collect()).collect();
+    let json = json.split("\"tool\":").nth(1).unwrap();
+    let numbers: Vec<&str> = line.split_whitespace().collect();
+    assert_eq!(numbers.len(), 7);
+    for (at, name) in ["x", "y", "z", "w", "i", "j", "k"].into_iter().enumerate() {
+        assert_eq!(rows[1 + at][..2], [name, numbers[at]], "{text}");
+        let value = format!("\"{name}\":{{\"value\":{},", numbers[at]);
+        assert!(json.contains(&value), "{json}");
+    }
+}
+
+/// A chain's tool is told in words, to programs and in the table, and a sheet without
+/// one is told as if there were none to be had.
+#[test]
+fn tools_are_told() {
+    let table = said(&sonde(&["--batch", folder("good").to_str().unwrap()]));
+    let tools_at = table.find("  tools ").unwrap();
+    let mut met = 0;
+    for path in sheets("good") {
+        let sheet = fs::read_to_string(&path).unwrap();
+        let line = sheet.lines().find_map(|line| line.strip_prefix("tool "));
+        let text = said(&sonde(&[path.to_str().unwrap()]));
+        let json = said(&sonde(&[path.to_str().unwrap(), "--json"]));
+        match line {
+            Some(line) => tool_is_told(line, &text, &json),
+            None => assert!(!text.contains("tool") && !json.contains("tool"), "{text}"),
+        }
+        met += usize::from(line.is_some());
+        let name = path.file_name().unwrap().to_str().unwrap();
+        let row = table.lines().find(|line| line.starts_with(name)).unwrap();
+        let column = row.chars().skip(tools_at).take(7).collect::<String>();
+        let expected = line.map_or("", |_| "1/1");
+        assert_eq!(column.trim(), expected, "{row}");
+    }
+    assert_eq!(met, 1, "a sheet with a tool");
+}
+
+/// Where no sheet has a tool, the table has no column for them.
+#[test]
+fn a_table_without_tools_is_as_ever() {
+    let table = said(&sonde(&["--batch", folder("bad").to_str().unwrap()]));
+    let head = table.lines().next().unwrap();
+    assert!(
+        head.ends_with(" inclination  weights   filed  note"),
+        "{head}"
+    );
 }
 
 #[test]
@@ -249,6 +327,8 @@ fn a_drawing_is_written() {
         let drawing = fs::read_to_string(&file).unwrap();
         assert!(drawing.starts_with("<svg ") && drawing.ends_with("</svg>\n"));
         assert!(drawing.contains("From above") && drawing.contains("From the side"));
+        let with_tool = fs::read_to_string(&path).unwrap().contains("\ntool ");
+        assert_eq!(drawing.contains(">flange, "), with_tool);
     }
 }
 

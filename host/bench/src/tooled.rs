@@ -1,27 +1,46 @@
-//! The calls that are lent weights. `tools/speed_ratio` may link a build from
-//! before there were any, whose calls lack that list: such a build is asked as it
-//! was then, with no list in between, so that both take what they take.
+//! The calls that are lent tools. `tools/speed_ratio` may link a build from before
+//! there were any, whose calls lack those lists: such a build is asked as it was
+//! then, with no lists in between, so that both take what they take.
 
-use relaxed_ik::bytes::{self, Given, Record};
+use relaxed_ik::bytes::{self, Sheet, Tools};
+#[cfg(feature = "objective")]
+use relaxed_ik::bytes::{Given, Record};
 
 /// A call on two blocks: joints, then scratch, value and slopes.
+#[cfg(feature = "objective")]
 pub type TwoBlocks = fn(Given, &[u8], &mut [u8], &mut [u8], &mut [u8]) -> u32;
 
-/// Asks the build that was taken last; where one is linked, it takes weights.
+/// Asks the build that was taken last; where one is linked, it takes tools.
 macro_rules! ask {
     ($name:ident, $($argument:expr),*) => {{
         #[cfg(feature = "two_builds")]
-        if !crate::builds::takes_weights() {
+        if !crate::builds::takes_tools() {
             return older::$name($($argument),*);
         }
         bytes::$name($($argument),*)
     }};
 }
 
+pub fn pose(sheet: Sheet, tools: Tools, joints: &[u8], ends: &mut [u8]) -> u32 {
+    ask!(pose, sheet, tools, joints, ends)
+}
+
+pub fn reset(
+    sheet: Sheet,
+    tools: Tools,
+    joints: &[u8],
+    history: &mut [u8],
+    ends: &mut [u8],
+) -> u32 {
+    ask!(reset, sheet, tools, joints, history, ends)
+}
+
+#[cfg(feature = "objective")]
 pub fn objective(given: Given, joints: &[u8], value: &mut [u8]) -> u32 {
     ask!(objective, given, joints, value)
 }
 
+#[cfg(feature = "objective")]
 pub fn gradient(
     given: Given,
     joints: &[u8],
@@ -32,6 +51,7 @@ pub fn gradient(
     ask!(gradient, given, joints, scratch, value, slopes)
 }
 
+#[cfg(feature = "objective")]
 pub fn gradient_finite_diff(
     given: Given,
     joints: &[u8],
@@ -42,6 +62,7 @@ pub fn gradient_finite_diff(
     ask!(gradient_finite_diff, given, joints, scratch, value, slopes)
 }
 
+#[cfg(feature = "objective")]
 pub fn gradient_one_block(
     given: Given,
     joints: &[u8],
@@ -52,10 +73,12 @@ pub fn gradient_one_block(
     ask!(gradient_one_block, given, joints, value, slopes, record)
 }
 
-/// The same calls without weights.
+/// The same calls without tools.
 #[cfg(feature = "two_builds")]
 mod older {
+    #[cfg(feature = "objective")]
     use super::{Given, Record};
+    use super::{Sheet, Tools};
 
     /// A list's pointer, whichever list it is.
     macro_rules! pointer {
@@ -67,19 +90,19 @@ mod older {
     /// Names a function, then its lists after the sheet's, each as pointer and
     /// length.
     macro_rules! call {
-        ($name:literal, $given:ident, $joints:ident $(, $write:expr)*) => {{
+        ($name:literal, $sheet:expr, $tools:expr $(, read $read:expr)* $(, write $write:expr)*) => {{
             unsafe extern "C" {
                 #[link_name = $name]
                 fn call(
                     sizes: *const u8, _: usize, codes: *const u8, _: usize,
                     floats: *const u8, _: usize, limits: *const u8, _: usize,
-                    goals: *const u8, _: usize, history: *const u8, _: usize,
-                    joints: *const u8, _: usize,
+                    $(_: pointer!($read), _: usize,)*
                     $(_: pointer!($write), _: usize),*
                 ) -> u32;
             }
-            let (sheet, given) = (&$given.sheet, &$given);
-            assert!(given.weights.is_empty(), "a build without weights");
+            let sheet: Sheet = $sheet;
+            let tools: Tools = $tools;
+            assert!(tools.iter().all(|tool| tool.is_empty()), "a build without tools");
             // Safety: each list is a slice, there in full and never null, and those
             // that are written are lent exclusively; the build taken is one whose
             // function has just these lists.
@@ -89,9 +112,7 @@ mod older {
                     sheet.codes.as_ptr(), sheet.codes.len(),
                     sheet.floats.as_ptr(), sheet.floats.len(),
                     sheet.limits.as_ptr(), sheet.limits.len(),
-                    given.goals.as_ptr(), given.goals.len(),
-                    given.history.as_ptr(), given.history.len(),
-                    $joints.as_ptr(), $joints.len(),
+                    $($read.as_ptr(), $read.len(),)*
                     $($write.as_mut_ptr(), $write.len()),*
                 )
             }
@@ -99,10 +120,40 @@ mod older {
     }
 
     #[inline(never)]
-    pub fn objective(given: Given, joints: &[u8], value: &mut [u8]) -> u32 {
-        call!("relaxed_ik_objective", given, joints, value)
+    pub fn pose(sheet: Sheet, tools: Tools, joints: &[u8], ends: &mut [u8]) -> u32 {
+        call!("relaxed_ik_pose", sheet, tools, read joints, write ends)
     }
 
+    #[inline(never)]
+    pub fn reset(
+        sheet: Sheet,
+        tools: Tools,
+        joints: &[u8],
+        history: &mut [u8],
+        ends: &mut [u8],
+    ) -> u32 {
+        call!("relaxed_ik_reset", sheet, tools, read joints, write history, write ends)
+    }
+
+    /// On goals, history and weights.
+    #[cfg(feature = "objective")]
+    macro_rules! call_given {
+        ($name:literal, $given:ident, $joints:ident $(, $write:expr)*) => {
+            call!(
+                $name, $given.sheet, $given.tools,
+                read $given.goals, read $given.history, read $given.weights, read $joints
+                $(, write $write)*
+            )
+        };
+    }
+
+    #[cfg(feature = "objective")]
+    #[inline(never)]
+    pub fn objective(given: Given, joints: &[u8], value: &mut [u8]) -> u32 {
+        call_given!("relaxed_ik_objective", given, joints, value)
+    }
+
+    #[cfg(feature = "objective")]
     #[inline(never)]
     pub fn gradient(
         given: Given,
@@ -111,9 +162,10 @@ mod older {
         value: &mut [u8],
         slopes: &mut [u8],
     ) -> u32 {
-        call!("relaxed_ik_gradient", given, joints, scratch, value, slopes)
+        call_given!("relaxed_ik_gradient", given, joints, scratch, value, slopes)
     }
 
+    #[cfg(feature = "objective")]
     #[inline(never)]
     pub fn gradient_finite_diff(
         given: Given,
@@ -122,7 +174,7 @@ mod older {
         value: &mut [u8],
         slopes: &mut [u8],
     ) -> u32 {
-        call!(
+        call_given!(
             "relaxed_ik_gradient_finite_diff",
             given,
             joints,
@@ -132,6 +184,7 @@ mod older {
         )
     }
 
+    #[cfg(feature = "objective")]
     #[inline(never)]
     pub fn gradient_one_block(
         given: Given,
@@ -140,7 +193,7 @@ mod older {
         slopes: &mut [u8],
         record: Record,
     ) -> u32 {
-        call!(
+        call_given!(
             "relaxed_ik_gradient_one_block",
             given,
             joints,
