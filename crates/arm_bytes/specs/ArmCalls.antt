@@ -10,6 +10,7 @@ use Rattle.spacetime.specs.Frames.{positionsOf, rotationsOf, endsOf}
 use Rattle.manipulability.specs.Jacobian.{manipulabilityOf}
 use Rattle.refusals.specs.Lengths.{historyLength, valueLength, planLength}
 use Rattle.refusals.specs.Lowest.{firstOf}
+use Rattle.task.specs.declared.picks.Picks.{Picks}
 use Rattle.refusals.specs.Refusal.{chainsOf, linksOf, loadRefusal, sizingRefusal, blockRefusal, historyRefusal, goalsRefusal, roomRefusal, toolRefusal, toolsRefusal}
 use Rattle.calls.specs.Arms.{ifTaken}
 use Rattle.calls.specs.Frames.{framesRefusal, poseRefusal}
@@ -63,9 +64,9 @@ unfoldable pub manipulabilityNumber : SheetLists → List Float → ℕ → ℕ
 manipulabilityNumber s x room = firstOf (loadNumber s) (firstOf (blockRefusal (s .codes) x) (roomRefusal valueLength room))
 
 -- ---- what they write, in floats, and sizing in u16s
--- the plan of a sheet
-unfoldable pub planNumbers : List ℕ → List ℕ → List ℕ
-planNumbers sizes codes = planList (sheetPlan sizes codes)
+-- the plan of a sheet, under a pick
+unfoldable pub planNumbers : Picks → List ℕ → List ℕ → List ℕ
+planNumbers p sizes codes = planList (sheetPlan p sizes codes)
 
 -- the pose after each link in the walk of block x
 abbrev pub posesOn : SheetLists → List Float → ℕ → Pose

@@ -10,6 +10,7 @@ use refusals::load;
 use refusals::shape;
 use sizing::plan::Plan;
 use sizing::plan::Sizing;
+use task::picks::Picks;
 ghost use mathlib.Core.Path.{_≡_};
 ghost use Prim.Native.Nat.{_*_, _≤_};
 ghost use lib.ListN.{length};
@@ -43,11 +44,11 @@ fn put_plan(p: Plan, out: &mut [u8]) -> u16
     0
 }
 
-pub fn sizing(sizes: &[u16], codes: &[u16], floats: &[f64], plan: &mut [u8]) -> u16
+pub fn sizing(sizes: &[u16], codes: &[u16], floats: &[f64], picks: Picks, plan: &mut [u8]) -> u16
     ensures number { λ r. ⌜ r ≡ sizingNumber (lent sizes) (lent codes) (lent floats) (numberRoomOf plan) ⌝ }
-    ensures plan { λ r. ⌜ now (plan .exit) ≡ numbersOutputOf r plan (planNumbers (lent sizes) (lent codes)) ⌝ }
+    ensures plan { λ r. ⌜ now (plan .exit) ≡ numbersOutputOf r plan (planNumbers picks (lent sizes) (lent codes)) ⌝ }
 {
-    match sizing::sizing::sizing(sizes, codes, floats) {
+    match sizing::sizing::sizing(sizes, codes, floats, picks) {
         Sizing::Planned(p) => put_plan(p, plan),
         Sizing::Refused(number) => number,
     }

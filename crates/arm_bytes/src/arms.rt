@@ -1,9 +1,11 @@
 // The calls on an arm sheet, as little-endian bytes. The answer is the refusal's number, 0 where the call is accepted.
 use crate::arm_lists;
 use lent_bytes::lent;
+use lent_bytes::picks;
 use lent_bytes::sheet_lists;
 use lent_bytes::tool_lists;
 ghost use mathlib.Core.Path.{_≡_};
+ghost use Rattle.lent_bytes.specs.Picks.{picksFrom};
 ghost use Rattle.lent_bytes.specs.SheetLists.{sizesIn, codesIn, linkFloatsIn, sheetIn, blockIn, goalsIn, historyIn, roomOf, numberRoomOf};
 ghost use Rattle.lent_bytes.specs.ToolLists.{toolFloatsIn, toolsIn};
 ghost use Rattle.arm_bytes.specs.ArmCalls.{loadNumber, sizingNumber, planNumbers, setGoalsNumber, setToolNumber, framesNumber, poseNumber, updateNumber, resetNumber};
@@ -26,9 +28,9 @@ pub fn load(sizes: &[u8], codes: &[u8], floats: &[u8], limits: &[u8]) -> u32
 }
 
 // No limits are lent, so none are decoded.
-pub fn sizing(sizes: &[u8], codes: &[u8], floats: &[u8], plan: &mut [u8]) -> u32
+pub fn sizing(sizes: &[u8], codes: &[u8], floats: &[u8], plan: &mut [u8], strict: u32) -> u32
     ensures number { λ r. ⌜ r ≡ sizingNumber (sizesIn sizes) (codesIn codes) (linkFloatsIn floats) (numberRoomOf plan) ⌝ }
-    ensures plan { λ r. ⌜ now (plan .exit) ≡ numbersOutputOf r plan (planNumbers (sizesIn sizes) (codesIn codes)) ⌝ }
+    ensures plan { λ r. ⌜ now (plan .exit) ≡ numbersOutputOf r plan (planNumbers (picksFrom strict) (sizesIn sizes) (codesIn codes)) ⌝ }
 {
     let mut s = [0u16; 5];
     let mut c = [0u16; 64];
@@ -47,7 +49,8 @@ pub fn sizing(sizes: &[u8], codes: &[u8], floats: &[u8], plan: &mut [u8]) -> u32
     let ns = n.sizes;
     let nc = n.codes;
     let nf = n.floats;
-    arm_lists::sizing(&s[..ns], &c[..nc], &f[..nf], plan) as u32
+    let picks = picks::decode(strict);
+    arm_lists::sizing(&s[..ns], &c[..nc], &f[..nf], picks, plan) as u32
 }
 
 pub fn set_goals(sizes: &[u8], codes: &[u8], floats: &[u8], limits: &[u8], goals: &[u8]) -> u32

@@ -8,3 +8,4 @@ pub mod Rows
 pub mod Agree
 pub mod Weights
 pub mod Tools
+pub mod Strict

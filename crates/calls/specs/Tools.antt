@@ -14,8 +14,9 @@ use Rattle.task.specs.Task.{Given}
 use Rattle.spacetime.specs.Floats.{flat}
 use Rattle.spacetime.specs.Tool.{no-tip}
 use Rattle.spacetime.specs.Frames.{lastOf, endOf, chainEnd, endsOf}
-use Rattle.objective_master.specs.Objective.{Objective, MatchEEPosiDoF, MatchEERotaDoF, EachJointLimits, MinimizeVelocity, MinimizeAcceleration, MinimizeJerk, MaximizeManipulability, SelfCollision}
-use Rattle.objective_master.specs.Losses.{offLoss, turnLoss, lossOf, lossesOf, objectivesOf}
+use Rattle.objective_master.specs.Objective.{Objective, MatchEEPosiDoF, MatchEERotaDoF, MatchEEPosGoals, MatchEEQuatGoals, EachJointLimits, MinimizeVelocity, MinimizeAcceleration, MinimizeJerk, MaximizeManipulability, SelfCollision}
+use Rattle.objective_master.specs.Strict.{posGoalsLoss, quatGoalsLoss}
+use Rattle.objective_master.specs.Losses.{goalPosition, goalQuat, offLoss, turnLoss, lossOf, lossesOf, objectivesOf}
 use Rattle.objective_master.specs.Weights.{weightedOf}
 use Rattle.objective_master.specs.Call.{objectiveOf}
 use Rattle.gradient.specs.declared.slopes.Rule.{Rule}
@@ -40,6 +41,7 @@ bare g =
       «prev_state» = g .«prev_state»;
       «prev_state2» = g .«prev_state2»;
       tools = [];
+      picks = g .picks;
     }
 
 -- end poses as they are then: the last frames
@@ -50,6 +52,8 @@ lastsOf ns P = runs (λ (c : ℕ). flat (lastOf ns P c)) 0 (length ns)
 unfoldable pub lossAtLast : Given → (ℕ → Pose) → List Float → Objective → Float
 lossAtLast g P x (MatchEEPosiDoF c a) = offLoss (g .goals) c (lastOf (g .counts) P c) a
 lossAtLast g P x (MatchEERotaDoF c a) = turnLoss (g .goals) c (lastOf (g .counts) P c) a
+lossAtLast g P x (MatchEEPosGoals c) = posGoalsLoss (goalPosition (g .goals) c) (lastOf (g .counts) P c .position)
+lossAtLast g P x (MatchEEQuatGoals c) = quatGoalsLoss (goalQuat (g .goals) c) (lastOf (g .counts) P c .rotation)
 lossAtLast g P x (EachJointLimits j) = lossOf g P x (EachJointLimits j)
 lossAtLast g P x MinimizeVelocity = lossOf g P x MinimizeVelocity
 lossAtLast g P x MinimizeAcceleration = lossOf g P x MinimizeAcceleration
@@ -93,21 +97,31 @@ unfolding endsOf chainEnd lastsOf
 ends-last ns tools P none = runs-ext _ _ 0 (length ns) (λ c l. ap flat (end-last ns tools P (0 + c) (none (0 + c))))
 
 -- the losses of a chain's goal are those at its last frame, whatever other chains have
-module _ (g : Given) (P : ℕ → Pose) (x : List Float) (c a : ℕ) (none : hasTool (g .tools) c ≡ false) where
-  pub off-last : lossOf g P x (MatchEEPosiDoF c a) ≡ offLoss (g .goals) c (lastOf (g .counts) P c) a
+module _ (g : Given) (P : ℕ → Pose) (x : List Float) (c : ℕ) (none : hasTool (g .tools) c ≡ false) where
+  pub off-last : (a : ℕ) → lossOf g P x (MatchEEPosiDoF c a) ≡ offLoss (g .goals) c (lastOf (g .counts) P c) a
   unfolding lossOf
-  off-last = ap (λ (p : Pose). offLoss (g .goals) c p a) (end-last (g .counts) (g .tools) P c none)
+  off-last a = ap (λ (p : Pose). offLoss (g .goals) c p a) (end-last (g .counts) (g .tools) P c none)
 
-  pub turn-last : lossOf g P x (MatchEERotaDoF c a) ≡ turnLoss (g .goals) c (lastOf (g .counts) P c) a
+  pub turn-last : (a : ℕ) → lossOf g P x (MatchEERotaDoF c a) ≡ turnLoss (g .goals) c (lastOf (g .counts) P c) a
   unfolding lossOf
-  turn-last = ap (λ (p : Pose). turnLoss (g .goals) c p a) (end-last (g .counts) (g .tools) P c none)
+  turn-last a = ap (λ (p : Pose). turnLoss (g .goals) c p a) (end-last (g .counts) (g .tools) P c none)
+
+  pub pos-last : lossOf g P x (MatchEEPosGoals c) ≡ posGoalsLoss (goalPosition (g .goals) c) (lastOf (g .counts) P c .position)
+  unfolding lossOf
+  pos-last = ap (λ (p : Pose). posGoalsLoss (goalPosition (g .goals) c) (p .position)) (end-last (g .counts) (g .tools) P c none)
+
+  pub quat-last : lossOf g P x (MatchEEQuatGoals c) ≡ quatGoalsLoss (goalQuat (g .goals) c) (lastOf (g .counts) P c .rotation)
+  unfolding lossOf
+  quat-last = ap (λ (p : Pose). quatGoalsLoss (goalQuat (g .goals) c) (p .rotation)) (end-last (g .counts) (g .tools) P c none)
 
 module _ (g : Given) (none : NoTool (g .tools)) where
   -- with no tool at all the losses are those of the last frames, in their order
   loss-last : (P : ℕ → Pose) (x : List Float) (o : Objective) → lossOf g P x o ≡ lossAtLast g P x o
   unfolding lossAtLast
-  loss-last P x (MatchEEPosiDoF c a) = off-last g P x c a (none c)
-  loss-last P x (MatchEERotaDoF c a) = turn-last g P x c a (none c)
+  loss-last P x (MatchEEPosiDoF c a) = off-last g P x c (none c) a
+  loss-last P x (MatchEERotaDoF c a) = turn-last g P x c (none c) a
+  loss-last P x (MatchEEPosGoals c) = pos-last g P x c (none c)
+  loss-last P x (MatchEEQuatGoals c) = quat-last g P x c (none c)
   loss-last P x (EachJointLimits j) = refl
   loss-last P x MinimizeVelocity = refl
   loss-last P x MinimizeAcceleration = refl
@@ -126,6 +140,8 @@ module _ (g : Given) (none : NoTool (g .tools)) where
   unfolding lossOf bare
   loss-bare P x (MatchEEPosiDoF c a) = ap (λ (p : Pose). offLoss (g .goals) c p a) (same-end P c)
   loss-bare P x (MatchEERotaDoF c a) = ap (λ (p : Pose). turnLoss (g .goals) c p a) (same-end P c)
+  loss-bare P x (MatchEEPosGoals c) = ap (λ (p : Pose). posGoalsLoss (goalPosition (g .goals) c) (p .position)) (same-end P c)
+  loss-bare P x (MatchEEQuatGoals c) = ap (λ (p : Pose). quatGoalsLoss (goalQuat (g .goals) c) (p .rotation)) (same-end P c)
   loss-bare P x (EachJointLimits j) = refl
   loss-bare P x MinimizeVelocity = refl
   loss-bare P x MinimizeAcceleration = refl

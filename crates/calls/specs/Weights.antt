@@ -19,6 +19,7 @@ builtIn g =
       «prev_state» = g .«prev_state»;
       «prev_state2» = g .«prev_state2»;
       tools = g .tools;
+      picks = g .picks;
     }
 
 -- ---- laws

@@ -3,6 +3,7 @@ use crate::answer::Answer;
 use one_block::grad;
 use refusals::lengths;
 use refusals::lent;
+use task::picks::Picks;
 ghost use mathlib.Core.Path.{_≡_};
 ghost use Prim.Native.Nat.{_≤_};
 ghost use lib.ListN.{length};
@@ -50,6 +51,7 @@ pub fn gradient_one_block(
     codes: &[u16],
     floats: &[f64],
     task: &[f64],
+    picks: Picks,
     block: &mut [f64],
     slopes: &mut [f64],
     record_joints: &mut [u16],
@@ -58,9 +60,9 @@ pub fn gradient_one_block(
 ) -> Answer
     requires { ⌜ AcceptedTask (now counts) (now codes) (now task) (now floats) ⌝ }
     ensures number { λ r. ⌜ numberOf r ≡ oneBlockRefusal (lent counts) (lent codes) (lent block) (length (lent slopes)) (length (lent «record_joints»)) (length (lent «record_links»)) (length (lent «record_poses»)) ⌝ }
-    ensures value { λ r. ⌜ (answerValue r ≡ valueIf (numberOf r) (valueAt (givenIn counts codes task) (lent floats) (lent block))) × (r ≡ answerOf (numberOf r) (answerValue r)) ⌝ }
+    ensures value { λ r. ⌜ (answerValue r ≡ valueIf (numberOf r) (valueAt (givenIn counts codes task picks) (lent floats) (lent block))) × (r ≡ answerOf (numberOf r) (answerValue r)) ⌝ }
     ensures block { λ _. ⌜ now (block .exit) ≡ lent block ⌝ }
-    ensures slopes { λ r. ⌜ FrontIfTaken (numberOf r) slopes (gradientOf (givenIn counts codes task) (lent floats) (lent block)) ⌝ }
+    ensures slopes { λ r. ⌜ FrontIfTaken (numberOf r) slopes (gradientOf (givenIn counts codes task picks) (lent floats) (lent block)) ⌝ }
     ensures record { λ r. ⌜ RecordIfTaken (numberOf r) «record_joints» «record_links» «record_poses» (lent counts) (lent codes) (lent floats) (lent block) ⌝ }
 {
     let number = one_block_refusal(
@@ -81,6 +83,7 @@ pub fn gradient_one_block(
         codes,
         floats,
         task,
+        picks,
         block,
         slopes,
         record_joints,

@@ -4,6 +4,7 @@ use gradient::gradient as two_blocks;
 use gradient::slopes::Rule;
 use refusals::lengths;
 use refusals::lent;
+use task::picks::Picks;
 ghost use mathlib.Core.Path.{_≡_};
 ghost use lib.ListN.{length};
 ghost use Rattle.lists.specs.Lent.{lent};
@@ -29,21 +30,32 @@ pub fn gradient(
     codes: &[u16],
     floats: &[f64],
     task: &[f64],
+    picks: Picks,
     joints: &[f64],
     scratch: &mut [f64],
     slopes: &mut [f64],
 ) -> Answer
     requires { ⌜ AcceptedTask (now counts) (now codes) (now task) (now floats) ⌝ }
     ensures number { λ r. ⌜ numberOf r ≡ slopesRefusal (lent codes) (lent joints) (length (lent scratch)) (length (lent slopes)) ⌝ }
-    ensures value { λ r. ⌜ answerValue r ≡ valueIf (numberOf r) (valueAt (givenIn counts codes task) (lent floats) (lent joints)) ⌝ }
+    ensures value { λ r. ⌜ answerValue r ≡ valueIf (numberOf r) (valueAt (givenIn counts codes task picks) (lent floats) (lent joints)) ⌝ }
     ensures case { λ r. ⌜ r ≡ answerOf (numberOf r) (answerValue r) ⌝ }
     ensures scratch { λ r. ⌜ FrontIfTaken (numberOf r) scratch (lent joints) ⌝ }
-    ensures slopes { λ r. ⌜ FrontIfTaken (numberOf r) slopes (slopesOf rule (givenIn counts codes task) (lent floats) (lent joints)) ⌝ }
+    ensures slopes { λ r. ⌜ FrontIfTaken (numberOf r) slopes (slopesOf rule (givenIn counts codes task picks) (lent floats) (lent joints)) ⌝ }
 {
     let number = slopes_refusal(codes, joints, scratch.len(), slopes.len());
     if number != 0 {
         return Answer::Refused(number);
     }
-    let v = two_blocks::gradient(rule, counts, codes, floats, task, joints, scratch, slopes);
+    let v = two_blocks::gradient(
+        rule,
+        counts,
+        codes,
+        floats,
+        task,
+        picks,
+        joints,
+        scratch,
+        slopes,
+    );
     Answer::Value(v)
 }

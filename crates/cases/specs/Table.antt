@@ -1,6 +1,6 @@
--- The cases that document 01 marks P, and some of its refusals, each computed from the definitions; what sizing answers and which weights are taken among them.
+-- The cases that document 01 marks P, and some of its refusals, each computed from the definitions; what sizing answers, which weights and tools are taken and what a strict goal costs among them.
 use mathlib.Core.Path.{_≡_, refl}
-use mathlib.Core.Bool.{false}
+use mathlib.Core.Bool.{true, false}
 use mathlib.Core.List.{List, [], _∷_, _++_, map}
 use Prim.Native.Nat.{ℕ, zero, suc, _*_}
 use lib.IntN.{negsuc}
@@ -9,32 +9,36 @@ use lib.ListN.{length, replicate}
 use Rattle.lists.specs.Runs.{runs}
 use Rattle.lists.specs.Listed.{listed}
 use Rattle.root.specs.Root.{rootOf}
-use Rattle.standins.specs.Num.{nought, half, one, two, whole}
+use Rattle.standins.specs.Num.{nought, half, one, two, whole, absOf}
 use Rattle.standins.specs.Cut.{cutOf}
-use Rattle.standins.specs.Series.{downFrom, sineDivisor, cosineDivisor, termOf, seriesOf, sineOf, cosineOf, expTermOf, expSeriesOf, squarings, expOf}
+use Rattle.standins.specs.Series.{downFrom, sineDivisor, cosineDivisor, termOf, seriesOf, sineOf, cosineOf, expTermOf, expSeriesOf, squarings, expOf, halvedOf, arcTermOf, arcSeriesOf, smallAngleOf, atan2Of}
 use Rattle.standins.specs.Power.{power20Of}
 use Rattle.geometry.specs.declared.vector.Vec3.{Vec3}
 use Rattle.geometry.specs.declared.quaternion.Quat.{Quat}
 use Rattle.geometry.specs.Vector.{vec, zeroOf, addOf, subOf, scaleOf, dotOf, crossOf, normOf}
-use Rattle.geometry.specs.Quaternion.{quat, productOf, axisOf, twiceOf, rotateOf, identityOf, quatZOf}
+use Rattle.geometry.specs.Quaternion.{quat, productOf, inverseOf, axisOf, twiceOf, rotateOf, identityOf, quatZOf}
 use Rattle.geometry.specs.declared.pose.Pose.{Pose}
 use Rattle.geometry.specs.Pose.{originOf}
 use Rattle.geometry.specs.Segment.{innerOf, endedOf, closestOf, pointOf, distanceOf}
+use Rattle.utils_rust.specs.Acos.{besideOf, acuteOf, acosOf}
+use Rattle.utils_rust.specs.Transformations.{overQuat, quatNorm, fromQuaternion, quaternionLog, quaternionDisp, angleBetweenQuaternion}
 use Rattle.sheet.specs.Code.{hasJoint, kindOf}
 use Rattle.sheet.specs.Read.{kindAt}
 use Rattle.sheet.specs.Tool.{hasTool}
 use Rattle.sheet.specs.Chain.{firstIn, endIn, total, chainStart, jointsOf, jointOf, joints, chainLength}
+use Rattle.task.specs.declared.picks.Picks.{Picks}
 use Rattle.spacetime.specs.Link.{isNone, offsetOf, signedBy, alongOf, turnOf, jointTurn, aboutOf, turnedBy, carriedOf, slideOf, slidOf, movedOf, linkOf}
 use Rattle.spacetime.specs.Floats.{vecAt, quatAt, flatVec, flatQuat, flat}
 use Rattle.spacetime.specs.Walk.{valueOf, afterLink, startOf, beforeOf, poseOf}
 use Rattle.spacetime.specs.Tool.{tipOf}
 use Rattle.spacetime.specs.Frames.{positionAt, rotationAt, positionsFrom, rotationsFrom, chainPositions, chainRotations, positionsOf, rotationsOf, endOf}
 use Rattle.groove.specs.Vars.{resetOf, updateOf}
-use Rattle.groove.specs.Loss.{tenth, grooveLoss, scaledOf, powerOf, bOf, boundsPenalty, swampLoss, freeOf}
+use Rattle.groove.specs.Loss.{tenth, evaluateOf, strictLoss, matchEEPosGoals, matchEEQuatGoals, grooveLoss, scaledOf, powerOf, bOf, boundsPenalty, swampLoss, freeOf}
 use Rattle.self_collision.specs.Pairs.{pairsFrom, pairsOf, chainPairs, allPairs, chainLengths}
-use Rattle.objective_master.specs.Objective.{MatchEEPosiDoF, MatchEERotaDoF, EachJointLimits, MinimizeVelocity, MinimizeAcceleration, MinimizeJerk, MaximizeManipulability, SelfCollision}
+use Rattle.objective_master.specs.Objective.{MatchEEPosiDoF, MatchEERotaDoF, MatchEEPosGoals, MatchEEQuatGoals, EachJointLimits, MinimizeVelocity, MinimizeAcceleration, MinimizeJerk, MaximizeManipulability, SelfCollision}
 use Rattle.objective_master.specs.Weights.{kindNumber, weightOf}
-use Rattle.objective_master.specs.Objective.{goalObjectives, limitObjective, motionObjectives, pairObjective, sourceList, objectives}
+use Rattle.objective_master.specs.Objective.{goalWidth, goalObjectives, limitObjective, motionObjectives, pairObjective, pickedList, objectives}
+use Rattle.objective_master.specs.Strict.{minOf, negativeOf, distanceFrom, angleFrom, posGoalsLoss, quatGoalsLoss}
 use Rattle.sizing.specs.declared.plan.Sizing.the-variants.{Planned, Refused}
 use Rattle.sizing.specs.Sizing.{planOf, plannedIf, sizingOf}
 use Rattle.one_block.specs.Record.{copyOf, recordOf, againOf, jointEntry, linkEntry, poseEntry, recordJoints, recordLinks, recordPoses, againAt, againBelow, entriesOf}
@@ -88,6 +92,13 @@ bare n = replicate (8 * n) nought
 abbrev tool : List Float → List Float
 tool floats = one ∷ floats
 
+-- what a caller picks
+abbrev tolerances : Picks
+tolerances = record { strict = false }
+
+abbrev strict : Picks
+strict = record { strict = true }
+
 -- a robot of one chain of two links
 abbrev pair : List ℕ
 pair = 2 ∷ []
@@ -129,14 +140,14 @@ pub record Cases : Type 0 where
   -- reset a, update b, update c: c, b, a, a
   pub history : (a b c : List Float) (n : ℕ) → updateOf (updateOf (resetOf a n) b) c ≡ record { joints = n; xopt = c; «prev_state» = b; «prev_state2» = a; «prev_state3» = a }
   -- 7 joints: 32 objectives; chains of 6 and 3: 36
-  pub seven-joints : length (objectives sourceList (7 ∷ [])) ≡ 32
-  pub six-and-three : length (objectives sourceList (6 ∷ 3 ∷ [])) ≡ 36
+  pub seven-joints : length (objectives (pickedList tolerances) (7 ∷ [])) ≡ 32
+  pub six-and-three : length (objectives (pickedList tolerances) (6 ∷ 3 ∷ [])) ≡ 36
   -- the same through sizing, on whole sheets
-  pub seven-joints-sized : sizingOf (1 ∷ 7 ∷ []) (turning 7) (ups 7) ≡ Planned (record { positions = 24; rotations = 36; objectives = 32; entries = 35 })
-  pub six-and-three-sized : sizingOf (2 ∷ 6 ∷ 3 ∷ []) (turning 9) (ups 9) ≡ Planned (record { positions = 33; rotations = 52; objectives = 36; entries = 36 })
+  pub seven-joints-sized : sizingOf tolerances (1 ∷ 7 ∷ []) (turning 7) (ups 7) ≡ Planned (record { positions = 24; rotations = 36; objectives = 32; entries = 35 })
+  pub six-and-three-sized : sizingOf tolerances (2 ∷ 6 ∷ 3 ∷ []) (turning 9) (ups 9) ≡ Planned (record { positions = 33; rotations = 52; objectives = 36; entries = 36 })
   -- fixed, revolute, revolute, fixed: 9 walked, links 0 1 2 3 1 2 3 2 3, joints 65535 four times, 0 0 0 1 1
   pub record-count : entriesOf four between-fixed ≡ 9
-  pub record-sized : sizingOf (1 ∷ 4 ∷ []) between-fixed (ups 4) ≡ Planned (record { positions = 15; rotations = 24; objectives = 12; entries = 9 })
+  pub record-sized : sizingOf tolerances (1 ∷ 4 ∷ []) between-fixed (ups 4) ≡ Planned (record { positions = 15; rotations = 24; objectives = 12; entries = 9 })
   pub record-links : recordLinks four between-fixed ≡ 0 ∷ 1 ∷ 2 ∷ 3 ∷ 1 ∷ 2 ∷ 3 ∷ 2 ∷ 3 ∷ []
   pub record-joints : recordJoints four between-fixed ≡ 65535 ∷ 65535 ∷ 65535 ∷ 65535 ∷ 0 ∷ 0 ∷ 0 ∷ 1 ∷ 1 ∷ []
   -- each entry with the pose after its link in its copy's walk
@@ -152,7 +163,7 @@ pub record Cases : Type 0 where
   pub joint-refused : blockRefusal (13 ∷ 13 ∷ []) (eight ∷ ofBits binary64 0x4020_0000_0000_0001 ∷ []) ≡ 7
   -- a chain of one joint is refused, one of two is taken
   pub one-joint : loadRefusal (1 ∷ 1 ∷ []) (13 ∷ []) up free ≡ 4
-  pub one-joint-sized : sizingOf (1 ∷ 1 ∷ []) (13 ∷ []) up ≡ Refused 4
+  pub one-joint-sized : sizingOf tolerances (1 ∷ 1 ∷ []) (13 ∷ []) up ≡ Refused 4
   pub two-joints : loadRefusal (1 ∷ 2 ∷ []) (13 ∷ 13 ∷ []) (up ++ up) (free ++ free) ≡ 0
   -- eight weights are taken, -0.0 and 1000 among them; none, seven and nine are refused
   pub weights-taken : weightsRefusal (neg nought ∷ thousand ∷ replicate 6 one) ≡ 0
@@ -187,6 +198,24 @@ pub record Cases : Type 0 where
   pub weights-by-kind : (p r l v a j m c : Float) → map (weightOf (p ∷ r ∷ l ∷ v ∷ a ∷ j ∷ m ∷ c ∷ []))
       (MatchEEPosiDoF 0 0 ∷ MatchEERotaDoF 0 0 ∷ EachJointLimits 0 ∷ MinimizeVelocity ∷ MinimizeAcceleration ∷ MinimizeJerk ∷ MaximizeManipulability ∷ SelfCollision 0 0 0 ∷ [])
       ≡ p ∷ r ∷ l ∷ v ∷ a ∷ j ∷ m ∷ c ∷ []
+  -- a strict goal has the first two: position, then rotation, chain after chain; the limits stand behind all goals
+  pub strict-weights : (p r : Float) (rest : List Float) → map (weightOf (p ∷ r ∷ rest)) (MatchEEPosGoals 0 ∷ MatchEEQuatGoals 0 ∷ []) ≡ p ∷ r ∷ []
+  pub strict-list : objectives (pickedList strict) (2 ∷ 2 ∷ [])
+      ≡ MatchEEPosGoals 0 ∷ MatchEEQuatGoals 0 ∷ MatchEEPosGoals 1 ∷ MatchEEQuatGoals 1
+      ∷ EachJointLimits 0 ∷ EachJointLimits 1 ∷ EachJointLimits 2 ∷ EachJointLimits 3
+      ∷ MinimizeVelocity ∷ MinimizeAcceleration ∷ MinimizeJerk ∷ MaximizeManipulability ∷ []
+  -- 7 joints: 28 strict objectives; chains of 6 and 3: 28; the lists' lengths are the same
+  pub seven-joints-strict : sizingOf strict (1 ∷ 7 ∷ []) (turning 7) (ups 7) ≡ Planned (record { positions = 24; rotations = 36; objectives = 28; entries = 35 })
+  pub six-and-three-strict : sizingOf strict (2 ∷ 6 ∷ 3 ∷ []) (turning 9) (ups 9) ≡ Planned (record { positions = 33; rotations = 52; objectives = 28; entries = 36 })
+  -- at the goal, turned as it is or by its negative, a strict goal costs -1; 3 by 4 away its distance is 5
+  pub strict-there : posGoalsLoss (vec one two three) (vec one two three) ≡ neg one
+  pub strict-turned : quatGoalsLoss identityOf identityOf ≡ neg one
+  pub strict-opposite : quatGoalsLoss identityOf (quat (neg one) (neg nought) (neg nought) (neg nought)) ≡ neg one
+  pub strict-distance : distanceFrom (vec nought nought nought) (vec three (whole 4) nought) ≡ whole 5
+  -- half round z the angle is 3.1415926535897936, one float above pi, since the sine of a quarter turn is one below 1
+  pub strict-half-turn : angleFrom identityOf (quat nought nought nought one) ≡ ofBits binary64 0x4009_21fb_5444_2d19
+  -- a NaN gives way to a number, first or second
+  pub strict-nan : (minOf nan one ≡ one) × (minOf one nan ≡ one)
 
 -- the poses are left as they are, and only the record around them is computed
 poses-walked : (gs x : List Float) → recordPoses four between-fixed gs x
@@ -197,7 +226,7 @@ poses-walked gs x = refl
 
 -- All of them, by computing both sides.
 pub cases : Cases
-unfolding recordJoints recordLinks recordOf againOf jointEntry linkEntry againAt againBelow entriesOf endIn objectives goalObjectives limitObjective motionObjectives pairObjective allPairs chainPairs pairsOf pairsFrom grooveLoss swampLoss scaledOf boundsPenalty powerOf bOf power20Of squarings expOf expSeriesOf expTermOf positionsOf rotationsOf chainPositions chainRotations positionsFrom rotationsFrom positionAt rotationAt runs poseOf beforeOf startOf afterLink valueOf linkOf isNone offsetOf signedBy alongOf turnOf jointTurn aboutOf turnedBy carriedOf slideOf slidOf movedOf vecAt quatAt flatVec flatQuat firstIn total chainStart hasJoint jointsOf jointOf joints kindAt kindOf originOf zeroOf identityOf productOf axisOf twiceOf rotateOf quatZOf sineOf cosineOf seriesOf termOf sineDivisor cosineDivisor downFrom rootOf distanceOf pointOf closestOf endedOf innerOf addOf subOf scaleOf dotOf crossOf normOf cutOf blockRefusal jointFits valueFits linkValueFits blockFits badBlock every between within withinAt squaresOf nearOne unitAt freeOf rangedPair pairFits limitsFit badLimits linkFits badFloats loadRefusal lowest lowestFrom badSizes linksFit badLengths badCodes listedAt listedCode listedKind badJoints twoJoints laterFits chainLength weightsRefusal badWeights weightFitsAt weightFits tipOf hasTool sevenFit toolRefusal badTool toolsRefusal badTools toolFits weightOf kindNumber add sub mul div neg eq ne lt le ofInt ofBits sizingOf plannedIf planOf sizingRefusal positionsLength rotationsLength chainLengths listed
+unfolding recordJoints recordLinks recordOf againOf jointEntry linkEntry againAt againBelow entriesOf endIn objectives goalObjectives limitObjective motionObjectives pairObjective allPairs chainPairs pairsOf pairsFrom grooveLoss swampLoss scaledOf boundsPenalty powerOf bOf power20Of squarings expOf expSeriesOf expTermOf positionsOf rotationsOf chainPositions chainRotations positionsFrom rotationsFrom positionAt rotationAt runs poseOf beforeOf startOf afterLink valueOf linkOf isNone offsetOf signedBy alongOf turnOf jointTurn aboutOf turnedBy carriedOf slideOf slidOf movedOf vecAt quatAt flatVec flatQuat firstIn total chainStart hasJoint jointsOf jointOf joints kindAt kindOf originOf zeroOf identityOf productOf axisOf twiceOf rotateOf quatZOf sineOf cosineOf seriesOf termOf sineDivisor cosineDivisor downFrom rootOf distanceOf pointOf closestOf endedOf innerOf addOf subOf scaleOf dotOf crossOf normOf cutOf blockRefusal jointFits valueFits linkValueFits blockFits badBlock every between within withinAt squaresOf nearOne unitAt freeOf rangedPair pairFits limitsFit badLimits linkFits badFloats loadRefusal lowest lowestFrom badSizes linksFit badLengths badCodes listedAt listedCode listedKind badJoints twoJoints laterFits chainLength weightsRefusal badWeights weightFitsAt weightFits tipOf hasTool sevenFit toolRefusal badTool toolsRefusal badTools toolFits weightOf kindNumber goalWidth posGoalsLoss quatGoalsLoss matchEEPosGoals matchEEQuatGoals evaluateOf strictLoss minOf negativeOf distanceFrom angleFrom angleBetweenQuaternion quaternionDisp quaternionLog fromQuaternion overQuat quatNorm acosOf acuteOf besideOf inverseOf absOf atan2Of smallAngleOf halvedOf arcSeriesOf arcTermOf add sub mul div neg eq ne lt le ofInt ofBits sizingOf plannedIf planOf sizingRefusal positionsLength rotationsLength chainLengths listed
 cases = record {
   groove-centre = refl;
   swamp-centre = refl;
@@ -245,4 +274,14 @@ cases = record {
   tools-first = refl;
   tools-unloaded = refl;
   weights-by-kind = λ p r l v a j m c. refl;
+  strict-weights = λ p r rest. refl;
+  strict-list = refl;
+  seven-joints-strict = refl;
+  six-and-three-strict = refl;
+  strict-there = refl;
+  strict-turned = refl;
+  strict-opposite = refl;
+  strict-distance = refl;
+  strict-half-turn = refl;
+  strict-nan = (refl, refl);
 }

@@ -1,6 +1,7 @@
 // The calls on an arm sheet, as little-endian bytes. The answer is the refusal's number, 0 where the call is accepted.
 use arm_bytes::arms;
 ghost use mathlib.Core.Path.{_≡_};
+ghost use Rattle.lent_bytes.specs.Picks.{picksFrom};
 ghost use Rattle.lent_bytes.specs.SheetLists.{sizesIn, codesIn, linkFloatsIn, sheetIn, blockIn, goalsIn, historyIn, roomOf, numberRoomOf};
 ghost use Rattle.lent_bytes.specs.ToolLists.{toolFloatsIn, toolsIn};
 ghost use Rattle.arm_bytes.specs.ArmCalls.{loadNumber, sizingNumber, planNumbers, setGoalsNumber, setToolNumber, framesNumber, poseNumber, updateNumber, resetNumber};
@@ -14,18 +15,19 @@ pub extern "C" fn relaxed_ik_load(sizes: &[u8], codes: &[u8], floats: &[u8], lim
     arms::load(sizes, codes, floats, limits)
 }
 
-// Positions, rotations, objectives, entries of the record: four u16s.
+// Positions, rotations, objectives, entries of the record: four u16s. `strict` other than 0 counts the list of objectives without tolerance.
 #[no_mangle]
 pub extern "C" fn relaxed_ik_sizing(
     sizes: &[u8],
     codes: &[u8],
     floats: &[u8],
     plan: &mut [u8],
+    strict: u32,
 ) -> u32
     ensures number { λ r. ⌜ r ≡ sizingNumber (sizesIn sizes) (codesIn codes) (linkFloatsIn floats) (numberRoomOf plan) ⌝ }
-    ensures plan { λ r. ⌜ now (plan .exit) ≡ numbersOutputOf r plan (planNumbers (sizesIn sizes) (codesIn codes)) ⌝ }
+    ensures plan { λ r. ⌜ now (plan .exit) ≡ numbersOutputOf r plan (planNumbers (picksFrom strict) (sizesIn sizes) (codesIn codes)) ⌝ }
 {
-    arms::sizing(sizes, codes, floats, plan)
+    arms::sizing(sizes, codes, floats, plan, strict)
 }
 
 #[no_mangle]

@@ -6,3 +6,4 @@ pub mod numbers;
 pub mod objectives;
 pub mod one_block_slopes;
 pub mod shapes;
+pub mod transformations;

@@ -1,6 +1,8 @@
-// The calls on the objective, as little-endian bytes. The answer is the refusal's number, 0 where the call is accepted.
+// The calls on the objective, as little-endian bytes. The answer is the refusal's number, 0 where the call is accepted. `strict` other than 0 picks
+// the list of objectives without tolerance.
 use objective_bytes::objectives;
 ghost use mathlib.Core.Path.{_≡_};
+ghost use Rattle.lent_bytes.specs.Picks.{picksFrom};
 ghost use Rattle.lent_bytes.specs.SheetLists.{sheetIn, blockIn, roomOf};
 ghost use Rattle.lent_bytes.specs.ToolLists.{toolsIn};
 ghost use Rattle.arm_bytes.specs.ArmCalls.{outputOf};
@@ -30,9 +32,10 @@ pub extern "C" fn relaxed_ik_objective(
     tool3: &[u8],
     joints: &[u8],
     value: &mut [u8],
+    strict: u32,
 ) -> u32
     ensures number { λ r. ⌜ r ≡ objectiveNumber (sheetIn sizes codes floats limits) (taskIn goals history weights (toolsIn tool0 tool1 tool2 tool3)) (blockIn joints) (roomOf value) ⌝ }
-    ensures value { λ r. ⌜ now (value .exit) ≡ outputOf r value (objectiveValue (sheetIn sizes codes floats limits) (taskIn goals history weights (toolsIn tool0 tool1 tool2 tool3)) (blockIn joints)) ⌝ }
+    ensures value { λ r. ⌜ now (value .exit) ≡ outputOf r value (objectiveValue (sheetIn sizes codes floats limits) (taskIn goals history weights (toolsIn tool0 tool1 tool2 tool3)) (picksFrom strict) (blockIn joints)) ⌝ }
 {
     objectives::objective(
         sizes,
@@ -48,6 +51,7 @@ pub extern "C" fn relaxed_ik_objective(
         tool3,
         joints,
         value,
+        strict,
     )
 }
 
@@ -69,11 +73,12 @@ pub extern "C" fn relaxed_ik_gradient(
     scratch: &mut [u8],
     value: &mut [u8],
     slopes: &mut [u8],
+    strict: u32,
 ) -> u32
     ensures number { λ r. ⌜ r ≡ slopesNumber (sheetIn sizes codes floats limits) (taskIn goals history weights (toolsIn tool0 tool1 tool2 tool3)) (blockIn joints) (roomOf scratch) (roomOf value) (roomOf slopes) ⌝ }
     ensures scratch { λ r. ⌜ now (scratch .exit) ≡ outputOf r scratch (blockIn joints) ⌝ }
-    ensures value { λ r. ⌜ now (value .exit) ≡ outputOf r value (objectiveValue (sheetIn sizes codes floats limits) (taskIn goals history weights (toolsIn tool0 tool1 tool2 tool3)) (blockIn joints)) ⌝ }
-    ensures slopes { λ r. ⌜ now (slopes .exit) ≡ outputOf r slopes (gradientSlopes (sheetIn sizes codes floats limits) (taskIn goals history weights (toolsIn tool0 tool1 tool2 tool3)) (blockIn joints)) ⌝ }
+    ensures value { λ r. ⌜ now (value .exit) ≡ outputOf r value (objectiveValue (sheetIn sizes codes floats limits) (taskIn goals history weights (toolsIn tool0 tool1 tool2 tool3)) (picksFrom strict) (blockIn joints)) ⌝ }
+    ensures slopes { λ r. ⌜ now (slopes .exit) ≡ outputOf r slopes (gradientSlopes (sheetIn sizes codes floats limits) (taskIn goals history weights (toolsIn tool0 tool1 tool2 tool3)) (picksFrom strict) (blockIn joints)) ⌝ }
 {
     objectives::gradient(
         sizes,
@@ -91,6 +96,7 @@ pub extern "C" fn relaxed_ik_gradient(
         scratch,
         value,
         slopes,
+        strict,
     )
 }
 
@@ -112,11 +118,12 @@ pub extern "C" fn relaxed_ik_gradient_finite_diff(
     scratch: &mut [u8],
     value: &mut [u8],
     slopes: &mut [u8],
+    strict: u32,
 ) -> u32
     ensures number { λ r. ⌜ r ≡ slopesNumber (sheetIn sizes codes floats limits) (taskIn goals history weights (toolsIn tool0 tool1 tool2 tool3)) (blockIn joints) (roomOf scratch) (roomOf value) (roomOf slopes) ⌝ }
     ensures scratch { λ r. ⌜ now (scratch .exit) ≡ outputOf r scratch (blockIn joints) ⌝ }
-    ensures value { λ r. ⌜ now (value .exit) ≡ outputOf r value (objectiveValue (sheetIn sizes codes floats limits) (taskIn goals history weights (toolsIn tool0 tool1 tool2 tool3)) (blockIn joints)) ⌝ }
-    ensures slopes { λ r. ⌜ now (slopes .exit) ≡ outputOf r slopes (finiteDiffSlopes (sheetIn sizes codes floats limits) (taskIn goals history weights (toolsIn tool0 tool1 tool2 tool3)) (blockIn joints)) ⌝ }
+    ensures value { λ r. ⌜ now (value .exit) ≡ outputOf r value (objectiveValue (sheetIn sizes codes floats limits) (taskIn goals history weights (toolsIn tool0 tool1 tool2 tool3)) (picksFrom strict) (blockIn joints)) ⌝ }
+    ensures slopes { λ r. ⌜ now (slopes .exit) ≡ outputOf r slopes (finiteDiffSlopes (sheetIn sizes codes floats limits) (taskIn goals history weights (toolsIn tool0 tool1 tool2 tool3)) (picksFrom strict) (blockIn joints)) ⌝ }
 {
     objectives::gradient_finite_diff(
         sizes,
@@ -134,5 +141,6 @@ pub extern "C" fn relaxed_ik_gradient_finite_diff(
         scratch,
         value,
         slopes,
+        strict,
     )
 }

@@ -11,7 +11,7 @@ ghost use Rattle.geometry.specs.Segment.{distanceOf};
 ghost use Rattle.exports.specs.Parts.{vecPart, quatPart, getQuatPart};
 
 // Component `part` of a vector: 0 to 2 for x, y, z; any other is a NaN.
-fn vec_part(v: Vec3, part: u32) -> f64
+pub(crate) fn vec_part(v: Vec3, part: u32) -> f64
     ensures { λ r. ⌜ r ≡ vecPart v part ⌝ }
 {
     if part == 0 {
@@ -27,7 +27,7 @@ fn vec_part(v: Vec3, part: u32) -> f64
 }
 
 // Component `part` of a quaternion: 0 to 3 for w, i, j, k; any other is a NaN.
-fn quat_part(q: Quat, part: u32) -> f64
+pub(crate) fn quat_part(q: Quat, part: u32) -> f64
     ensures { λ r. ⌜ r ≡ quatPart q part ⌝ }
 {
     if part == 0 {

@@ -8,6 +8,7 @@ use lib.ListN.{length, take}
 use borrow.Author.Tests.{lt-ltb, le-leb}
 use Rattle.geometry.specs.declared.pose.Pose.{Pose}
 use Rattle.lists.specs.Splice.{splice, part-splice}
+use Rattle.task.specs.declared.picks.Picks.{Picks}
 use Rattle.task.specs.Task.{taskLength, Given, givenOf}
 use Rattle.spacetime.specs.Walk.{Sheet, listPose, framesOf, frames-pose}
 use Rattle.spacetime.specs.Frames.{Chains}
@@ -31,17 +32,17 @@ pub record Ready (ns cs : List ℕ) (task gs x : List Float) : Type 0 where
   pub whole : length task ≡ taskLength
 
 -- the objectives' kinds ks; of block x the value f and the losses, in front of fs; room for poses and for losses
-pub record Known (ns cs : List ℕ) (task gs x : List Float) (ks : List ℕ) (f : Float) (fs ps hs : List Float) : Type 0 where
-  pub kinds : ks ≡ kindsOf ns cs
-  pub value : f ≡ valueAt (givenOf ns cs task) gs x
-  pub losses : take (length ks) fs ≡ lossesAt (givenOf ns cs task) gs x
+pub record Known (ns cs : List ℕ) (task : List Float) (picks : Picks) (gs x : List Float) (ks : List ℕ) (f : Float) (fs ps hs : List Float) : Type 0 where
+  pub kinds : ks ≡ kindsOf picks ns cs
+  pub value : f ≡ valueAt (givenOf ns cs task picks) gs x
+  pub losses : take (length ks) fs ≡ lossesAt (givenOf ns cs task picks) gs x
   pub first : length ks ≤ length fs
   pub poses : 7 * length cs ≤ length ps
   pub again : length ks ≤ length hs
 
 -- the objectives' kinds, n of them and at most 131, in front of a list
-pub record KindsListed (ns cs list : List ℕ) (n : ℕ) : Type 0 where
-  pub front : take n list ≡ kindsOf ns cs
+pub record KindsListed (picks : Picks) (ns cs list : List ℕ) (n : ℕ) : Type 0 where
+  pub front : take n list ≡ kindsOf picks ns cs
   pub many : n ≡ length (take n list)
   pub few : length (take n list) ≤ 131
   pub within : n ≤ length list
@@ -58,18 +59,18 @@ ready-other ns cs task gs x y e r =
       whole = r .whole;
     }
 
-module _ (ns cs : List ℕ) (task gs x : List Float) (r : Ready ns cs task gs x) where
+module _ (ns cs : List ℕ) (task : List Float) (picks : Picks) (gs x : List Float) (r : Ready ns cs task gs x) where
   abbrev G : Given
-  G = givenOf ns cs task
+  G = givenOf ns cs task picks
 
-  pub kinds-most : length (kindsOf ns cs) ≤ 131
-  kinds-most = omega (arith, kinds-length ns cs, objectives-few ns cs (r .paired .counted) (r .two))
+  pub kinds-most : length (kindsOf picks ns cs) ≤ 131
+  kinds-most = omega (arith, kinds-length picks ns cs, objectives-few ns cs (r .paired .counted) (r .two) picks)
 
   -- ---- as `relaxed_ik` leaves the list
-  pub kinds-listed : (rest list : List ℕ) (n : ℕ) → length list ≡ 131 → n ≡ objectiveCount ns cs → list ≡ splice rest 0 (kindsOf ns cs) → KindsListed ns cs list n
+  pub kinds-listed : (rest list : List ℕ) (n : ℕ) → length list ≡ 131 → n ≡ objectiveCount picks ns cs → list ≡ splice rest 0 (kindsOf picks ns cs) → KindsListed picks ns cs list n
   kinds-listed rest list n long e h =
-      let f : take n list ≡ kindsOf ns cs = ap (take n) h ∙ part-splice rest 0 n (kindsOf ns cs) (omega arith) (kinds-length ns cs ∙ sym e) in
-      let m : length (take n list) ≡ n = ap length f ∙ kinds-length ns cs ∙ sym e in
+      let f : take n list ≡ kindsOf picks ns cs = ap (take n) h ∙ part-splice rest 0 n (kindsOf picks ns cs) (omega arith) (kinds-length picks ns cs ∙ sym e) in
+      let m : length (take n list) ≡ n = ap length f ∙ kinds-length picks ns cs ∙ sym e in
       record { front = f; many = sym m; few = omega (arith, ap length f, kinds-most); within = omega (arith, ap length f, kinds-most) }
 
   -- ---- poses that stand in one list, all of them walked again
@@ -83,9 +84,9 @@ module _ (ns cs : List ℕ) (task gs x : List Float) (r : Ready ns cs task gs x)
         whole = r .whole;
       }
 
-  pub cached-whole : (P : ℕ → Pose) (out : List Float) → length (kindsOf ns cs) ≤ length out → Cached G P x 0 (length cs) 65535 out
+  pub cached-whole : (P : ℕ → Pose) (out : List Float) → length (kindsOf picks ns cs) ≤ length out → Cached G P x 0 (length cs) 65535 out
   unfolding givenOf
-  cached-whole P out h = cached-at G (r .chains) P x out (sym (r .sheet .whole)) (omega (arith, kinds-length ns cs))
+  cached-whole P out h = cached-at G (r .chains) P x out (sym (r .sheet .whole)) (omega (arith, kinds-length picks ns cs))
 
   view-pose : (rest poses : List Float) (l : ℕ) → 7 * length cs ≤ length rest → poses ≡ splice rest 0 (framesOf ns cs gs x) → l < length cs
       → viewOf poses poses 0 (length cs) l ≡ posesOf G gs x l

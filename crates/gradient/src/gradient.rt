@@ -5,6 +5,7 @@ use crate::value;
 use lists;
 use objective_master::relaxed_ik;
 use task::parts;
+use task::picks::Picks;
 ghost use mathlib.Core.Path.{_≡_};
 ghost use Prim.Native.Nat.{_≤_, _<_};
 ghost use lib.ListN.{length};
@@ -27,6 +28,7 @@ fn slope(
     codes: &[u16],
     floats: &[f64],
     task: &[f64],
+    picks: Picks,
     scratch: &mut [f64],
     kinds: &[u16],
     f_0s: &[f64],
@@ -34,15 +36,15 @@ fn slope(
     f_hs: &mut [f64],
 ) -> f64
     requires { ⌜ Ready (now counts) (now codes) (now task) (now floats) (now scratch) × (asked .joint < length (now scratch)) ⌝ }
-    requires { ⌜ Known (now counts) (now codes) (now task) (now floats) (now scratch) (now kinds) (asked .«f_0») (now «f_0s») (now poses) (now «f_hs») ⌝ }
-    ensures { λ r. ⌜ r ≡ slopeAt (asked .rule) (givenIn counts codes task) (now (floats .entry)) (now (scratch .entry)) (asked .joint) ⌝ }
+    requires { ⌜ Known (now counts) (now codes) (now task) picks (now floats) (now scratch) (now kinds) (asked .«f_0») (now «f_0s») (now poses) (now «f_hs») ⌝ }
+    ensures { λ r. ⌜ r ≡ slopeAt (asked .rule) (givenIn counts codes task picks) (now (floats .entry)) (now (scratch .entry)) (asked .joint) ⌝ }
     ensures { λ _. ⌜ now (scratch .exit) ≡ now (scratch .entry) ⌝ }
 {
     let joint = asked.joint;
     let rule = asked.rule;
     let old = scratch[joint];
     scratch[joint] = old + slopes::step(rule);
-    value::losses_of(counts, codes, floats, task, scratch, poses, f_hs);
+    value::losses_of(counts, codes, floats, task, picks, scratch, poses, f_hs);
     scratch[joint] = old;
     slopes::slope(rule, parts::weights(task), kinds, asked.f_0, f_0s, f_hs)
 }
@@ -54,6 +56,7 @@ fn put_gradient(
     codes: &[u16],
     floats: &[f64],
     task: &[f64],
+    picks: Picks,
     scratch: &mut [f64],
     kinds: &[u16],
     f_0: f64,
@@ -63,8 +66,8 @@ fn put_gradient(
     slopes: &mut [f64],
 )
     requires { ⌜ Ready (now counts) (now codes) (now task) (now floats) (now scratch) × (length (now scratch) ≤ length (now slopes)) ⌝ }
-    requires { ⌜ Known (now counts) (now codes) (now task) (now floats) (now scratch) (now kinds) «f_0» (now «f_0s») (now poses) (now «f_hs») ⌝ }
-    ensures { λ _. ⌜ now (slopes .exit) ≡ splice (now (slopes .entry)) 0 (slopesOf rule (givenIn counts codes task) (now (floats .entry)) (now (scratch .entry))) ⌝ }
+    requires { ⌜ Known (now counts) (now codes) (now task) picks (now floats) (now scratch) (now kinds) «f_0» (now «f_0s») (now poses) (now «f_hs») ⌝ }
+    ensures { λ _. ⌜ now (slopes .exit) ≡ splice (now (slopes .entry)) 0 (slopesOf rule (givenIn counts codes task picks) (now (floats .entry)) (now (scratch .entry))) ⌝ }
     ensures { λ _. ⌜ now (scratch .exit) ≡ now (scratch .entry) ⌝ }
 {
     let mut joint: usize = 0;
@@ -76,6 +79,7 @@ fn put_gradient(
             codes,
             floats,
             task,
+            picks,
             scratch,
             kinds,
             f_0s,
@@ -93,24 +97,26 @@ fn gradient_on(
     codes: &[u16],
     floats: &[f64],
     task: &[f64],
+    picks: Picks,
     scratch: &mut [f64],
     slopes: &mut [f64],
 ) -> f64
     requires { ⌜ Ready (now counts) (now codes) (now task) (now floats) (now scratch) × (length (now scratch) ≤ length (now slopes)) ⌝ }
-    ensures { λ r. ⌜ r ≡ valueAt (givenIn counts codes task) (now (floats .entry)) (now (scratch .entry)) ⌝ }
-    ensures { λ _. ⌜ now (slopes .exit) ≡ splice (now (slopes .entry)) 0 (slopesOf rule (givenIn counts codes task) (now (floats .entry)) (now (scratch .entry))) ⌝ }
+    ensures { λ r. ⌜ r ≡ valueAt (givenIn counts codes task picks) (now (floats .entry)) (now (scratch .entry)) ⌝ }
+    ensures { λ _. ⌜ now (slopes .exit) ≡ splice (now (slopes .entry)) 0 (slopesOf rule (givenIn counts codes task picks) (now (floats .entry)) (now (scratch .entry))) ⌝ }
     ensures { λ _. ⌜ now (scratch .exit) ≡ now (scratch .entry) ⌝ }
 {
     let mut poses = [0.0; 448];
     let mut f_0s = [0.0; 131];
     let mut f_hs = [0.0; 131];
     let mut list = [0u16; 131];
-    let n = relaxed_ik::relaxed_ik(counts, codes, &mut list);
+    let n = relaxed_ik::relaxed_ik(counts, codes, picks, &mut list);
     let f_0 = value::value_of(
         counts,
         codes,
         floats,
         task,
+        picks,
         scratch,
         &list[..n],
         &mut poses,
@@ -122,6 +128,7 @@ fn gradient_on(
         codes,
         floats,
         task,
+        picks,
         scratch,
         &list[..n],
         f_0,
@@ -140,13 +147,14 @@ pub fn gradient(
     codes: &[u16],
     floats: &[f64],
     task: &[f64],
+    picks: Picks,
     joints: &[f64],
     scratch: &mut [f64],
     slopes: &mut [f64],
 ) -> f64
     requires { ⌜ Ready (now counts) (now codes) (now task) (now floats) (now joints) × (length (now joints) ≤ length (now scratch)) × (length (now joints) ≤ length (now slopes)) ⌝ }
-    ensures { λ r. ⌜ r ≡ valueAt (givenIn counts codes task) (now (floats .entry)) (now (joints .entry)) ⌝ }
-    ensures { λ _. ⌜ now (slopes .exit) ≡ splice (now (slopes .entry)) 0 (slopesOf rule (givenIn counts codes task) (now (floats .entry)) (now (joints .entry))) ⌝ }
+    ensures { λ r. ⌜ r ≡ valueAt (givenIn counts codes task picks) (now (floats .entry)) (now (joints .entry)) ⌝ }
+    ensures { λ _. ⌜ now (slopes .exit) ≡ splice (now (slopes .entry)) 0 (slopesOf rule (givenIn counts codes task picks) (now (floats .entry)) (now (joints .entry))) ⌝ }
     ensures { λ _. ⌜ now (scratch .exit) ≡ splice (now (scratch .entry)) 0 (now (joints .entry)) ⌝ }
 {
     lists::copy_floats(joints, scratch);
@@ -156,6 +164,7 @@ pub fn gradient(
         codes,
         floats,
         task,
+        picks,
         &mut scratch[..joints.len()],
         slopes,
     )

@@ -110,6 +110,10 @@ limitsLoss l u = cond (freeOf l u) (FixedCost (neg one)) (Swamp l u (whole 10) (
 unfoldable pub changeLoss : Loss
 changeLoss = Groove nought tenth (whole 10)
 
+-- a goal without tolerance
+unfoldable pub strictLoss : Loss
+strictLoss = Groove nought tenth (whole 10)
+
 -- ---- the objectives on their arguments
 unfoldable pub matchEEPosiDoF : Float → Float → Float
 matchEEPosiDoF dist bound = evaluateOf (positionLoss bound) dist
@@ -135,7 +139,13 @@ minimizeAcceleration x = evaluateOf changeLoss x
 unfoldable pub minimizeJerk : Float → Float
 minimizeJerk x = evaluateOf changeLoss x
 
--- ---- the arguments of the last three
+unfoldable pub matchEEPosGoals : Float → Float
+matchEEPosGoals x = evaluateOf strictLoss x
+
+unfoldable pub matchEEQuatGoals : Float → Float
+matchEEQuatGoals x = evaluateOf strictLoss x
+
+-- ---- the arguments of velocity, acceleration and jerk
 
 -- joint i's change from one block to another, and the changes of that
 unfoldable pub velocityAt : List Float → List Float → ℕ → Float

@@ -2,7 +2,7 @@
 ghost use mathlib.Core.Path.{_≡_};
 ghost use Prim.Native.Nat.{_≤_};
 ghost use lib.ListN.{length};
-ghost use Rattle.groove.specs.Loss.{grooveLoss, scaledOf, boundsPenalty, swampGrooveLoss, swampLoss, evaluateOf, narrowOf, roomLoss, positionLoss, rotationLoss, pairLoss, manipulabilityLoss, freeOf, limitsLoss, changeLoss, matchEEPosiDoF, matchEERotaDoF, selfCollision, maximizeManipulability, eachJointLimits, minimizeVelocity, minimizeAcceleration, minimizeJerk, rootsOf, changesOf, anyNan};
+ghost use Rattle.groove.specs.Loss.{grooveLoss, scaledOf, boundsPenalty, swampGrooveLoss, swampLoss, evaluateOf, narrowOf, roomLoss, positionLoss, rotationLoss, pairLoss, manipulabilityLoss, freeOf, limitsLoss, changeLoss, strictLoss, matchEEPosiDoF, matchEERotaDoF, selfCollision, maximizeManipulability, eachJointLimits, minimizeVelocity, minimizeAcceleration, minimizeJerk, matchEEPosGoals, matchEEQuatGoals, rootsOf, changesOf, anyNan};
 
 // The losses by kind, each with its own centre, bounds, widths and factors.
 pub enum Loss {
@@ -227,6 +227,17 @@ pub fn change_loss() -> Loss
     }
 }
 
+// A goal without tolerance.
+pub fn strict_loss() -> Loss
+    ensures { λ r. ⌜ r ≡ strictLoss ⌝ }
+{
+    Loss::Groove {
+        t: 0.0,
+        c: 0.1,
+        f: 10.0,
+    }
+}
+
 // The objectives, each on its argument.
 pub fn match_ee_posi_dof(dist: f64, bound: f64) -> f64
     ensures { λ r. ⌜ r ≡ matchEEPosiDoF dist bound ⌝ }
@@ -274,6 +285,18 @@ pub fn minimize_jerk(x_val: f64) -> f64
     ensures { λ r. ⌜ r ≡ minimizeJerk «x_val» ⌝ }
 {
     evaluate(change_loss(), x_val)
+}
+
+pub fn match_ee_pos_goals(x_val: f64) -> f64
+    ensures { λ r. ⌜ r ≡ matchEEPosGoals «x_val» ⌝ }
+{
+    evaluate(strict_loss(), x_val)
+}
+
+pub fn match_ee_quat_goals(x_val: f64) -> f64
+    ensures { λ r. ⌜ r ≡ matchEEQuatGoals «x_val» ⌝ }
+{
+    evaluate(strict_loss(), x_val)
 }
 
 // The roots of the three sums.

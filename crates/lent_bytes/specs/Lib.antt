@@ -3,3 +3,4 @@ pub mod Lent
 pub mod Optional
 pub mod SheetLists
 pub mod ToolLists
+pub mod Picks

@@ -2,6 +2,7 @@
 pub mod bytes;
 pub mod lent;
 pub mod optional;
+pub mod picks;
 pub mod sheet_lists;
 pub mod task_lists;
 pub mod tool_lists;

@@ -4,6 +4,7 @@ use mathlib.Core.List.{List}
 use Prim.Native.Nat.{ℕ, _*_}
 use lib.Ieee.{Float}
 use lib.ListN.{length}
+use Rattle.task.specs.declared.picks.Picks.{Picks}
 use Rattle.refusals.specs.Lengths.{scratchLength, slopesLength, valueLength}
 use Rattle.refusals.specs.Lowest.{firstOf, first-last}
 use Rattle.refusals.specs.Refusal.{linksOf, roomRefusal, weightsRefusal}
@@ -41,15 +42,15 @@ module _ (s : SheetLists) (t : TaskLists) where
         (first-last _ _ zero)
 
   -- without a tool the answers are those of an empty list of tools
-  module _ (none : NoTool (t .tools)) where
-    given-none : NoTool (givenLent s t .tools)
+  module _ (none : NoTool (t .tools)) (p : Picks) where
+    given-none : NoTool (givenLent s t p .tools)
     unfolding givenLent
     given-none = take-none (8 * length (linksOf (s .sizes))) (t .tools) none
 
-    pub value-no-tool : (x : List Float) → valueIn s t x ≡ valueAt (bare (givenLent s t)) (s .floats) x
+    pub value-no-tool : (x : List Float) → valueIn s t p x ≡ valueAt (bare (givenLent s t p)) (s .floats) x
     unfolding valueIn
-    value-no-tool x = value-bare (givenLent s t) given-none (s .floats) x
+    value-no-tool x = value-bare (givenLent s t p) given-none (s .floats) x
 
-    pub slopes-no-tool : (rule : Rule) (x : List Float) → slopesIn rule s t x ≡ slopesOf rule (bare (givenLent s t)) (s .floats) x
+    pub slopes-no-tool : (rule : Rule) (x : List Float) → slopesIn rule s t p x ≡ slopesOf rule (bare (givenLent s t p)) (s .floats) x
     unfolding slopesIn
-    slopes-no-tool rule x = slopes-bare (givenLent s t) given-none rule (s .floats) x
+    slopes-no-tool rule x = slopes-bare (givenLent s t p) given-none rule (s .floats) x

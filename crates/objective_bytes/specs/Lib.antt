@@ -4,3 +4,4 @@ pub mod Numbers
 pub mod Weights
 pub mod Ragged
 pub mod LeftOut
+pub mod Strict

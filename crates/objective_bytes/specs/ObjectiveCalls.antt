@@ -7,6 +7,7 @@ use lib.Ieee.{Float}
 use lib.ListN.{length, take}
 use Rattle.lists.specs.Lent.{LentList, lent}
 use Rattle.sheet.specs.Chain.{joints}
+use Rattle.task.specs.declared.picks.Picks.{Picks}
 use Rattle.task.specs.Task.{part, Given}
 use Rattle.refusals.specs.Lengths.{scratchLength, slopesLength, valueLength}
 use Rattle.refusals.specs.Lowest.{firstOf}
@@ -80,8 +81,8 @@ slopesNumber s t x scratch value slopes =
 
 -- ---- what they write, in floats
 -- what the objective is given: of the history its blocks xopt, prev_state and prev_state2, the fourth is not read; of the tools those of the sheet's chains, as many as are in use
-unfoldable pub givenLent : SheetLists → TaskLists → Given
-givenLent s t =
+unfoldable pub givenLent : SheetLists → TaskLists → Picks → Given
+givenLent s t p =
     record {
       counts = linksOf (s .sizes);
       codes = s .codes;
@@ -92,23 +93,24 @@ givenLent s t =
       «prev_state» = part (joints (s .codes)) (joints (s .codes)) (t .history);
       «prev_state2» = part (2 * joints (s .codes)) (joints (s .codes)) (t .history);
       tools = take (8 * length (linksOf (s .sizes))) (t .tools);
+      picks = p;
     }
 
 -- the objective's value at block x
-unfoldable pub valueIn : SheetLists → TaskLists → List Float → Float
-valueIn s t x = valueAt (givenLent s t) (s .floats) x
+unfoldable pub valueIn : SheetLists → TaskLists → Picks → List Float → Float
+valueIn s t p x = valueAt (givenLent s t p) (s .floats) x
 
 -- as one float
-abbrev pub objectiveValue : SheetLists → TaskLists → List Float → List Float
-objectiveValue s t x = valueIn s t x ∷ []
+abbrev pub objectiveValue : SheetLists → TaskLists → Picks → List Float → List Float
+objectiveValue s t p x = valueIn s t p x ∷ []
 
 -- the slopes along the joints, by either rule
-unfoldable pub slopesIn : Rule → SheetLists → TaskLists → List Float → List Float
-slopesIn rule s t x = slopesOf rule (givenLent s t) (s .floats) x
+unfoldable pub slopesIn : Rule → SheetLists → TaskLists → Picks → List Float → List Float
+slopesIn rule s t p x = slopesOf rule (givenLent s t p) (s .floats) x
 
 -- by steps of 1e-7 and of 1e-6
-abbrev pub gradientSlopes : SheetLists → TaskLists → List Float → List Float
-gradientSlopes s t x = slopesIn EachLoss s t x
+abbrev pub gradientSlopes : SheetLists → TaskLists → Picks → List Float → List Float
+gradientSlopes s t p x = slopesIn EachLoss s t p x
 
-abbrev pub finiteDiffSlopes : SheetLists → TaskLists → List Float → List Float
-finiteDiffSlopes s t x = slopesIn WeightedSum s t x
+abbrev pub finiteDiffSlopes : SheetLists → TaskLists → Picks → List Float → List Float
+finiteDiffSlopes s t p x = slopesIn WeightedSum s t p x

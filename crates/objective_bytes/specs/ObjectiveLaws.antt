@@ -7,6 +7,7 @@ use lib.Ieee.{Float}
 use lib.ListN.{length, take}
 use lib.Seq.{take-all}
 use Rattle.sheet.specs.Chain.{joints}
+use Rattle.task.specs.declared.picks.Picks.{Picks}
 use Rattle.task.specs.Task.{part, taskLength, givenOf, part-length}
 use Rattle.task.specs.Laid.{Apart, apartIn, laid, Fit, Full, givenApart, laid-given}
 use Rattle.refusals.specs.Lowest.{first-none}
@@ -97,9 +98,9 @@ module _ (s : SheetLists) (t : TaskLists) (x : List Float) (k : Taken s t x) (fo
       }
 
   -- each list but the tools is lent as long as it is in use
-  apart-taken : givenApart (linksOf (s .sizes)) (s .codes) (lists N) ≡ givenLent s t
+  apart-taken : (p : Picks) → givenApart (linksOf (s .sizes)) (s .codes) (lists N) p ≡ givenLent s t p
   unfolding givenApart givenLent
-  apart-taken =
+  apart-taken p =
       let e₁ : take 8 (t .weights) ≡ t .weights = take-all 8 (t .weights) (omega (arith, k .eight)) in
       let e₂ : take (2 * N) (s .limits) ≡ s .limits = take-all (2 * N) (s .limits) (omega (arith, k .pairs)) in
       let e₃ : take (13 * length (linksOf (s .sizes))) (t .goals) ≡ t .goals = take-all (13 * length (linksOf (s .sizes))) (t .goals) (omega (arith, k .each)) in
@@ -113,20 +114,20 @@ module _ (s : SheetLists) (t : TaskLists) (x : List Float) (k : Taken s t x) (fo
   fit-taken = subst (λ n. Fit (lists n)) (sym (k .block)) fit
 
   -- the objective finds in it what is lent
-  pub laid-taken : (ns : List ℕ) (old task : List Float) → ns ≡ linksOf (s .sizes) → length old ≡ taskLength → task ≡ laid (lists (length x)) old
-      → givenOf ns (s .codes) task ≡ givenLent s t
-  laid-taken ns old task e w h =
-      same-two (λ ns′ t′. givenOf ns′ (s .codes) t′) e (h ∙ ap (λ n. laid (lists n) old) (k .block))
-      ∙ laid-given (lists N) old w fit (linksOf (s .sizes)) (s .codes) full (k .chains) (k .few)
-      ∙ apart-taken
+  pub laid-taken : (p : Picks) (ns : List ℕ) (old task : List Float) → ns ≡ linksOf (s .sizes) → length old ≡ taskLength → task ≡ laid (lists (length x)) old
+      → givenOf ns (s .codes) task p ≡ givenLent s t p
+  laid-taken p ns old task e w h =
+      same-two (λ ns′ t′. givenOf ns′ (s .codes) t′ p) e (h ∙ ap (λ n. laid (lists n) old) (k .block))
+      ∙ laid-given (lists N) old w fit (linksOf (s .sizes)) (s .codes) p full (k .chains) (k .few)
+      ∙ apart-taken p
 
   pub ready-taken : (ns : List ℕ) (task : List Float) → ns ≡ linksOf (s .sizes) → length task ≡ taskLength → Ready ns (s .codes) task (s .floats) x
   ready-taken ns task e w = subst (λ ns′. Ready ns′ (s .codes) task (s .floats) x) (sym e) (k .ready task w)
 
 -- as many slopes as joints
-pub slopes-in-length : (rule : Rule) (s : SheetLists) (t : TaskLists) (x : List Float) → length (slopesIn rule s t x) ≡ length x
+pub slopes-in-length : (rule : Rule) (s : SheetLists) (t : TaskLists) (p : Picks) (x : List Float) → length (slopesIn rule s t p x) ≡ length x
 unfolding slopesIn
-slopes-in-length rule s t x = slopes-length rule (givenLent s t) (s .floats) x
+slopes-in-length rule s t p x = slopes-length rule (givenLent s t p) (s .floats) x
 
 -- lists that are equal
 pub same-four : {A B C D E : Type 0} (f : A → B → C → D → E) {a a′ : A} {b b′ : B} {c c′ : C} {d d′ : D} → a ≡ a′ → b ≡ b′ → c ≡ c′ → d ≡ d′ → f a b c d ≡ f a′ b′ c′ d′

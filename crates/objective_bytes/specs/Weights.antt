@@ -8,6 +8,7 @@ use lib.Ieee.{Float, ofBits, toBits}
 use lib.ListN.{length}
 use Rattle.lists.specs.Runs.{runs}
 use Rattle.lists.specs.Listed.{listed}
+use Rattle.task.specs.declared.picks.Picks.{Picks}
 use Rattle.task.specs.Task.{Given}
 use Rattle.refusals.specs.Lowest.{first-zero}
 use Rattle.refusals.specs.Refusal.{weightsRefusal}
@@ -60,15 +61,15 @@ unfolding optionalNumber
 optional-built-in s t e = first-zero _ _ (no-ten _ e)
 
 -- with the built-in weights in force, lent or not, the answers are those
-module _ (s : SheetLists) (t : TaskLists) (x : List Float) (e : t .weights ≡ weightPriors) where
-  given-built-in : givenLent s t ≡ builtIn (givenLent s t)
+module _ (s : SheetLists) (t : TaskLists) (p : Picks) (x : List Float) (e : t .weights ≡ weightPriors) where
+  given-built-in : givenLent s t p ≡ builtIn (givenLent s t p)
   unfolding givenLent
-  given-built-in = built-in-same (givenLent s t) e
+  given-built-in = built-in-same (givenLent s t p) e
 
-  pub value-built-in : valueIn s t x ≡ valueAt (builtIn (givenLent s t)) (s .floats) x
+  pub value-built-in : valueIn s t p x ≡ valueAt (builtIn (givenLent s t p)) (s .floats) x
   unfolding valueIn
   value-built-in = ap (λ (g : Given). valueAt g (s .floats) x) given-built-in
 
-  pub slopes-built-in : (rule : Rule) → slopesIn rule s t x ≡ slopesOf rule (builtIn (givenLent s t)) (s .floats) x
+  pub slopes-built-in : (rule : Rule) → slopesIn rule s t p x ≡ slopesOf rule (builtIn (givenLent s t p)) (s .floats) x
   unfolding slopesIn
   slopes-built-in rule = ap (λ (g : Given). slopesOf rule g (s .floats) x) given-built-in

@@ -9,6 +9,7 @@ use refusals::lent;
 use refusals::load;
 use refusals::shape;
 use task::lay;
+use task::picks::Picks;
 ghost use mathlib.Core.Path.{_≡_};
 ghost use Prim.Native.Nat.{_*_, _≤_};
 ghost use lib.ListN.{length, take};
@@ -90,10 +91,11 @@ fn value_on(
     history: &[f64],
     weights: &[f64],
     tools: &[f64; 32],
+    picks: Picks,
     joints: &[f64],
 ) -> f64
     requires { ⌜ Passed (sheetWith (now sizes) (now codes) (now floats) (now limits)) (taskWith (now goals) (now history) (now weights) (now tools)) (now joints) ⌝ }
-    ensures { λ r. ⌜ r ≡ valueIn (sheetOf sizes codes floats limits) (taskOf goals history weights tools) (lent joints) ⌝ }
+    ensures { λ r. ⌜ r ≡ valueIn (sheetOf sizes codes floats limits) (taskOf goals history weights tools) picks (lent joints) ⌝ }
 {
     let counts = shape::links(sizes);
     let mut task = [0.0; task::LENGTH];
@@ -106,7 +108,7 @@ fn value_on(
         joints.len(),
         &mut task,
     );
-    value_of::objective(counts, codes, floats, &task, joints)
+    value_of::objective(counts, codes, floats, &task, picks, joints)
 }
 
 // Value and slopes by either rule; `scratch` holds the joints in the end.
@@ -120,13 +122,14 @@ fn slopes_on(
     history: &[f64],
     weights: &[f64],
     tools: &[f64; 32],
+    picks: Picks,
     joints: &[f64],
     scratch: &mut [f64],
     slopes: &mut [f64],
 ) -> f64
     requires { ⌜ (Passed (sheetWith (now sizes) (now codes) (now floats) (now limits)) (taskWith (now goals) (now history) (now weights) (now tools)) (now joints)) × (length (now scratch) ≡ 16) × (length (now slopes) ≡ 16) ⌝ }
-    ensures { λ r. ⌜ r ≡ valueIn (sheetOf sizes codes floats limits) (taskOf goals history weights tools) (lent joints) ⌝ }
-    ensures { λ _. ⌜ now (slopes .exit) ≡ splice (lent slopes) 0 (slopesIn rule (sheetOf sizes codes floats limits) (taskOf goals history weights tools) (lent joints)) ⌝ }
+    ensures { λ r. ⌜ r ≡ valueIn (sheetOf sizes codes floats limits) (taskOf goals history weights tools) picks (lent joints) ⌝ }
+    ensures { λ _. ⌜ now (slopes .exit) ≡ splice (lent slopes) 0 (slopesIn rule (sheetOf sizes codes floats limits) (taskOf goals history weights tools) picks (lent joints)) ⌝ }
     ensures { λ _. ⌜ now (scratch .exit) ≡ splice (lent scratch) 0 (lent joints) ⌝ }
 {
     let counts = shape::links(sizes);
@@ -140,7 +143,17 @@ fn slopes_on(
         joints.len(),
         &mut task,
     );
-    slopes_of::gradient(rule, counts, codes, floats, &task, joints, scratch, slopes)
+    slopes_of::gradient(
+        rule,
+        counts,
+        codes,
+        floats,
+        &task,
+        picks,
+        joints,
+        scratch,
+        slopes,
+    )
 }
 
 // The first n of x and of d, and v, as bytes.
@@ -174,11 +187,12 @@ pub(crate) fn objective(
     history: &[f64],
     weights: &[f64],
     tools: &[f64; 32],
+    picks: Picks,
     joints: &[f64],
     value: &mut [u8],
 ) -> u16
     ensures number { λ r. ⌜ r ≡ objectiveNumber (sheetOf sizes codes floats limits) (taskOf goals history weights tools) (lent joints) (roomOf value) ⌝ }
-    ensures value { λ r. ⌜ now (value .exit) ≡ outputOf r value (objectiveValue (sheetOf sizes codes floats limits) (taskOf goals history weights tools) (lent joints)) ⌝ }
+    ensures value { λ r. ⌜ now (value .exit) ≡ outputOf r value (objectiveValue (sheetOf sizes codes floats limits) (taskOf goals history weights tools) picks (lent joints)) ⌝ }
 {
     let of_task = task_number(sizes, codes, floats, limits, goals, history, joints);
     let nine = lent::room_refusal(1, bytes_lent::room(value.len()));
@@ -196,6 +210,7 @@ pub(crate) fn objective(
         history,
         weights,
         tools,
+        picks,
         joints,
     )];
     bytes_lent::put_floats(&one, 0, value);
@@ -212,6 +227,7 @@ pub(crate) fn gradient(
     history: &[f64],
     weights: &[f64],
     tools: &[f64; 32],
+    picks: Picks,
     joints: &[f64],
     scratch: &mut [u8],
     value: &mut [u8],
@@ -219,8 +235,8 @@ pub(crate) fn gradient(
 ) -> u16
     ensures number { λ r. ⌜ r ≡ slopesNumber (sheetOf sizes codes floats limits) (taskOf goals history weights tools) (lent joints) (roomOf scratch) (roomOf value) (roomOf slopes) ⌝ }
     ensures scratch { λ r. ⌜ now (scratch .exit) ≡ outputOf r scratch (lent joints) ⌝ }
-    ensures value { λ r. ⌜ now (value .exit) ≡ outputOf r value (objectiveValue (sheetOf sizes codes floats limits) (taskOf goals history weights tools) (lent joints)) ⌝ }
-    ensures slopes { λ r. ⌜ now (slopes .exit) ≡ outputOf r slopes (slopesIn rule (sheetOf sizes codes floats limits) (taskOf goals history weights tools) (lent joints)) ⌝ }
+    ensures value { λ r. ⌜ now (value .exit) ≡ outputOf r value (objectiveValue (sheetOf sizes codes floats limits) (taskOf goals history weights tools) picks (lent joints)) ⌝ }
+    ensures slopes { λ r. ⌜ now (slopes .exit) ≡ outputOf r slopes (slopesIn rule (sheetOf sizes codes floats limits) (taskOf goals history weights tools) picks (lent joints)) ⌝ }
 {
     let number = slopes_number(
         sizes,
@@ -251,6 +267,7 @@ pub(crate) fn gradient(
         history,
         weights,
         tools,
+        picks,
         joints,
         &mut x,
         &mut d,

@@ -3,10 +3,12 @@ use crate::objective_lists;
 use crate::weights as weights_list;
 use gradient::slopes::Rule;
 use lent_bytes::lent;
+use lent_bytes::picks;
 use lent_bytes::sheet_lists;
 use lent_bytes::task_lists;
 use lent_bytes::tool_lists;
 ghost use mathlib.Core.Path.{_≡_};
+ghost use Rattle.lent_bytes.specs.Picks.{picksFrom};
 ghost use Rattle.lent_bytes.specs.SheetLists.{sheetIn, blockIn, roomOf};
 ghost use Rattle.lent_bytes.specs.ToolLists.{toolsIn};
 ghost use Rattle.arm_bytes.specs.ArmCalls.{outputOf};
@@ -35,9 +37,10 @@ pub fn objective(
     tool3: &[u8],
     joints: &[u8],
     value: &mut [u8],
+    strict: u32,
 ) -> u32
     ensures number { λ r. ⌜ r ≡ objectiveNumber (sheetIn sizes codes floats limits) (taskIn goals history weights (toolsIn tool0 tool1 tool2 tool3)) (blockIn joints) (roomOf value) ⌝ }
-    ensures value { λ r. ⌜ now (value .exit) ≡ outputOf r value (objectiveValue (sheetIn sizes codes floats limits) (taskIn goals history weights (toolsIn tool0 tool1 tool2 tool3)) (blockIn joints)) ⌝ }
+    ensures value { λ r. ⌜ now (value .exit) ≡ outputOf r value (objectiveValue (sheetIn sizes codes floats limits) (taskIn goals history weights (toolsIn tool0 tool1 tool2 tool3)) (picksFrom strict) (blockIn joints)) ⌝ }
 {
     let mut s = [0u16; 5];
     let mut c = [0u16; 64];
@@ -58,6 +61,7 @@ pub fn objective(
     let nx = t.joints;
     let nw = weights_list::decode(weights, &mut w);
     let tools = tool_lists::decode(tool0, tool1, tool2, tool3);
+    let picks = picks::decode(strict);
     objective_lists::objective(
         &s[..ns],
         &c[..nc],
@@ -67,6 +71,7 @@ pub fn objective(
         &h[..nh],
         &w[..nw],
         &tools,
+        picks,
         &x[..nx],
         value,
     ) as u32
@@ -90,11 +95,12 @@ fn slopes_by(
     scratch: &mut [u8],
     value: &mut [u8],
     slopes: &mut [u8],
+    strict: u32,
 ) -> u32
     ensures number { λ r. ⌜ r ≡ slopesNumber (sheetIn sizes codes floats limits) (taskIn goals history weights (toolsIn tool0 tool1 tool2 tool3)) (blockIn joints) (roomOf scratch) (roomOf value) (roomOf slopes) ⌝ }
     ensures scratch { λ r. ⌜ now (scratch .exit) ≡ outputOf r scratch (blockIn joints) ⌝ }
-    ensures value { λ r. ⌜ now (value .exit) ≡ outputOf r value (objectiveValue (sheetIn sizes codes floats limits) (taskIn goals history weights (toolsIn tool0 tool1 tool2 tool3)) (blockIn joints)) ⌝ }
-    ensures slopes { λ r. ⌜ now (slopes .exit) ≡ outputOf r slopes (slopesIn rule (sheetIn sizes codes floats limits) (taskIn goals history weights (toolsIn tool0 tool1 tool2 tool3)) (blockIn joints)) ⌝ }
+    ensures value { λ r. ⌜ now (value .exit) ≡ outputOf r value (objectiveValue (sheetIn sizes codes floats limits) (taskIn goals history weights (toolsIn tool0 tool1 tool2 tool3)) (picksFrom strict) (blockIn joints)) ⌝ }
+    ensures slopes { λ r. ⌜ now (slopes .exit) ≡ outputOf r slopes (slopesIn rule (sheetIn sizes codes floats limits) (taskIn goals history weights (toolsIn tool0 tool1 tool2 tool3)) (picksFrom strict) (blockIn joints)) ⌝ }
 {
     let mut s = [0u16; 5];
     let mut c = [0u16; 64];
@@ -115,6 +121,7 @@ fn slopes_by(
     let nx = t.joints;
     let nw = weights_list::decode(weights, &mut w);
     let tools = tool_lists::decode(tool0, tool1, tool2, tool3);
+    let picks = picks::decode(strict);
     objective_lists::gradient(
         rule,
         &s[..ns],
@@ -125,6 +132,7 @@ fn slopes_by(
         &h[..nh],
         &w[..nw],
         &tools,
+        picks,
         &x[..nx],
         scratch,
         value,
@@ -148,11 +156,12 @@ pub fn gradient(
     scratch: &mut [u8],
     value: &mut [u8],
     slopes: &mut [u8],
+    strict: u32,
 ) -> u32
     ensures number { λ r. ⌜ r ≡ slopesNumber (sheetIn sizes codes floats limits) (taskIn goals history weights (toolsIn tool0 tool1 tool2 tool3)) (blockIn joints) (roomOf scratch) (roomOf value) (roomOf slopes) ⌝ }
     ensures scratch { λ r. ⌜ now (scratch .exit) ≡ outputOf r scratch (blockIn joints) ⌝ }
-    ensures value { λ r. ⌜ now (value .exit) ≡ outputOf r value (objectiveValue (sheetIn sizes codes floats limits) (taskIn goals history weights (toolsIn tool0 tool1 tool2 tool3)) (blockIn joints)) ⌝ }
-    ensures slopes { λ r. ⌜ now (slopes .exit) ≡ outputOf r slopes (gradientSlopes (sheetIn sizes codes floats limits) (taskIn goals history weights (toolsIn tool0 tool1 tool2 tool3)) (blockIn joints)) ⌝ }
+    ensures value { λ r. ⌜ now (value .exit) ≡ outputOf r value (objectiveValue (sheetIn sizes codes floats limits) (taskIn goals history weights (toolsIn tool0 tool1 tool2 tool3)) (picksFrom strict) (blockIn joints)) ⌝ }
+    ensures slopes { λ r. ⌜ now (slopes .exit) ≡ outputOf r slopes (gradientSlopes (sheetIn sizes codes floats limits) (taskIn goals history weights (toolsIn tool0 tool1 tool2 tool3)) (picksFrom strict) (blockIn joints)) ⌝ }
 {
     slopes_by(
         Rule::EachLoss,
@@ -171,6 +180,7 @@ pub fn gradient(
         scratch,
         value,
         slopes,
+        strict,
     )
 }
 
@@ -190,11 +200,12 @@ pub fn gradient_finite_diff(
     scratch: &mut [u8],
     value: &mut [u8],
     slopes: &mut [u8],
+    strict: u32,
 ) -> u32
     ensures number { λ r. ⌜ r ≡ slopesNumber (sheetIn sizes codes floats limits) (taskIn goals history weights (toolsIn tool0 tool1 tool2 tool3)) (blockIn joints) (roomOf scratch) (roomOf value) (roomOf slopes) ⌝ }
     ensures scratch { λ r. ⌜ now (scratch .exit) ≡ outputOf r scratch (blockIn joints) ⌝ }
-    ensures value { λ r. ⌜ now (value .exit) ≡ outputOf r value (objectiveValue (sheetIn sizes codes floats limits) (taskIn goals history weights (toolsIn tool0 tool1 tool2 tool3)) (blockIn joints)) ⌝ }
-    ensures slopes { λ r. ⌜ now (slopes .exit) ≡ outputOf r slopes (finiteDiffSlopes (sheetIn sizes codes floats limits) (taskIn goals history weights (toolsIn tool0 tool1 tool2 tool3)) (blockIn joints)) ⌝ }
+    ensures value { λ r. ⌜ now (value .exit) ≡ outputOf r value (objectiveValue (sheetIn sizes codes floats limits) (taskIn goals history weights (toolsIn tool0 tool1 tool2 tool3)) (picksFrom strict) (blockIn joints)) ⌝ }
+    ensures slopes { λ r. ⌜ now (slopes .exit) ≡ outputOf r slopes (finiteDiffSlopes (sheetIn sizes codes floats limits) (taskIn goals history weights (toolsIn tool0 tool1 tool2 tool3)) (picksFrom strict) (blockIn joints)) ⌝ }
 {
     slopes_by(
         Rule::WeightedSum,
@@ -213,5 +224,6 @@ pub fn gradient_finite_diff(
         scratch,
         value,
         slopes,
+        strict,
     )
 }

@@ -18,8 +18,8 @@ use Rattle.spacetime.specs.Tool.{tipOf}
 use Rattle.manipulability.specs.View.{walkedAgain}
 use Rattle.groove.specs.Loss.{anyNan}
 use Rattle.self_collision.specs.Pairs.{Pair, pair, allPairs, firstArm, chainLengths, pairLoss, pairLast, pairLosses, pairLasts, CachedPairs, lengths-count}
-use Rattle.objective_master.specs.Objective.{Objective, MatchEEPosiDoF, MatchEERotaDoF, EachJointLimits, MinimizeVelocity, MinimizeAcceleration, MinimizeJerk, MaximizeManipulability, SelfCollision, goalWidth, goalObjectives, pairObjective, sourceList, count, at-goal, at-limit, at-pair}
-use Rattle.objective_master.specs.Losses.{lossOf, lossesOf, objectivesOf, offLosses, turnLosses, poseLosses, goalLosses, limitLoss, limitLosses, motionLosses, goal-length, limit-length, motion-length, lengths-total, losses-sections}
+use Rattle.objective_master.specs.Objective.{Objective, MatchEEPosiDoF, MatchEERotaDoF, MatchEEPosGoals, MatchEEQuatGoals, EachJointLimits, MinimizeVelocity, MinimizeAcceleration, MinimizeJerk, MaximizeManipulability, SelfCollision, goalWidth, goalObjectives, pairObjective, pickedList, count, at-goal, at-limit, at-pair}
+use Rattle.objective_master.specs.Losses.{lossOf, lossesOf, objectivesOf, poseLosses, goalLosses, limitLoss, limitLosses, motionLosses, goal-losses, goal-length, limit-length, motion-length, lengths-total, losses-sections}
 
 -- chain c's last link was walked again
 unfoldable pub endAgain : List ℕ → ℕ → ℕ → ℕ → Bool
@@ -33,6 +33,8 @@ isRaised joint j = eqb joint 65535 || eqb joint j
 unfoldable pub touched : List ℕ → ℕ → ℕ → ℕ → Objective → Bool
 touched ns from to joint (MatchEEPosiDoF c a) = endAgain ns from to c
 touched ns from to joint (MatchEERotaDoF c a) = endAgain ns from to c
+touched ns from to joint (MatchEEPosGoals c) = endAgain ns from to c
+touched ns from to joint (MatchEEQuatGoals c) = endAgain ns from to c
 touched ns from to joint (EachJointLimits j) = isRaised joint j
 touched ns from to joint MinimizeVelocity = true
 touched ns from to joint MinimizeAcceleration = true
@@ -44,6 +46,10 @@ touched ns from to joint (SelfCollision arm j k) = leb from (pairLast ns (pair a
 pub record Cached (g : Given) (P : ℕ → Pose) (x : List Float) (from to joint : ℕ) (out : List Float) : Type 0 where
   pub room : length (objectivesOf g) ≤ length out
   pub cached : (i : ℕ) → getD (map (touched (g .counts) from to joint) (objectivesOf g)) i true ≡ false → getD out i nan ≡ getD (lossesOf g P x) i nan
+
+-- how many a chain's goal has
+abbrev pub widthIn : Given → ℕ
+widthIn g = goalWidth (g .picks .strict)
 
 -- ---- of a piece, and of the pieces of a section
 
@@ -86,17 +92,17 @@ piece-turn f w each t at n xs cur i k s e h fit ek q =
     ∙ s .cached i r h (omega (arith, each i)) q)
 
 -- a chain's goal, by the number of its last link
-pub goal-is : (ns : List ℕ) (goals tools : List Float) (P : ℕ → Pose) (c l : ℕ) → l ≡ chainStart ns c
-    → poseLosses goals c (tipOf tools c (P (l + getD ns c 0 - 1))) ≡ goalLosses ns goals tools P c
+pub goal-is : (strict : Bool) (ns : List ℕ) (goals tools : List Float) (P : ℕ → Pose) (c l : ℕ) → l ≡ chainStart ns c
+    → poseLosses strict goals c (tipOf tools c (P (l + getD ns c 0 - 1))) ≡ goalLosses strict ns goals tools P c
 unfolding goalLosses
-goal-is ns goals tools P c l e = ap (λ (k : ℕ). poseLosses goals c (tipOf tools c (P (k + getD ns c 0 - 1)))) e
+goal-is strict ns goals tools P c l e = ap (λ (k : ℕ). poseLosses strict goals c (tipOf tools c (P (k + getD ns c 0 - 1)))) e
 
-pub goal-cached : (ns : List ℕ) (goals tools : List Float) (P : ℕ → Pose) (from to c l k : ℕ) (out : List Float) → l ≡ chainStart ns c
-    → CachedPiece (endAgain ns from to c) k (goalLosses ns goals tools P c) out
-    → CachedPiece (walkedAgain from to (l + getD ns c 0 - 1)) k (poseLosses goals c (tipOf tools c (P (l + getD ns c 0 - 1)))) out
+pub goal-cached : (strict : Bool) (ns : List ℕ) (goals tools : List Float) (P : ℕ → Pose) (from to c l k : ℕ) (out : List Float) → l ≡ chainStart ns c
+    → CachedPiece (endAgain ns from to c) k (goalLosses strict ns goals tools P c) out
+    → CachedPiece (walkedAgain from to (l + getD ns c 0 - 1)) k (poseLosses strict goals c (tipOf tools c (P (l + getD ns c 0 - 1)))) out
 unfolding endAgain
-goal-cached ns goals tools P from to c l k out e h q =
-    h (ap (λ (m : ℕ). walkedAgain from to (m + getD ns c 0 - 1)) (sym e) ∙ q) ∙ ap (splice out k) (sym (goal-is ns goals tools P c l e))
+goal-cached strict ns goals tools P from to c l k out e h q =
+    h (ap (λ (m : ℕ). walkedAgain from to (m + getD ns c 0 - 1)) (sym e) ∙ q) ∙ ap (splice out k) (sym (goal-is strict ns goals tools P c l e))
 
 -- ---- from the whole list to its sections
 pub map-at : {A B : Type 0} (h : A → B) (xs : List A) (i : ℕ) (a : A) (b : B) → i < length xs → getD (map h xs) i b ≡ h (getD xs i a)
@@ -122,69 +128,81 @@ module _ (g : Given) (P : ℕ → Pose) (x : List Float) (from to joint : ℕ) (
   abbrev T : Objective → Bool
   T = touched (g .counts) from to joint
 
+  abbrev strict : Bool
+  strict = g .picks .strict
+
   chains-are : length lens ≡ length ns
   chains-are = lengths-count ns (g .codes)
 
   joints-are : total lens ≡ length x
   joints-are = lengths-total ns (g .codes) w ∙ sym v
 
-  pub goals-cached : CachedPieces (goalLosses ns (g .goals) (g .tools) P) goalWidth (endAgain ns from to) 0 (length ns) xs
-  unfolding lossesOf lossOf goalObjectives touched goalLosses poseLosses offLosses turnLosses
+  goals-end : length lens * widthIn g ≡ length ns * widthIn g
+  goals-end = ap (λ (n : ℕ). n * widthIn g) chains-are
+
+  -- a chain's goal is touched as a whole
+  goal-touched : (strict : Bool) (c r : ℕ) → r < goalWidth strict → getD (map T (goalObjectives strict c)) r true ≡ endAgain ns from to c
+  unfolding goalWidth goalObjectives touched
+  goal-touched true c zero l = refl
+  goal-touched true c (suc zero) l = refl
+  goal-touched true c (suc (suc r)) l = absurd (omega arith)
+  goal-touched false c zero l = refl
+  goal-touched false c (suc zero) l = refl
+  goal-touched false c (suc (suc zero)) l = refl
+  goal-touched false c (suc (suc (suc zero))) l = refl
+  goal-touched false c (suc (suc (suc (suc zero)))) l = refl
+  goal-touched false c (suc (suc (suc (suc (suc zero))))) l = refl
+  goal-touched false c (suc (suc (suc (suc (suc (suc r)))))) l = absurd (omega arith)
+
+  pub goals-cached : CachedPieces (goalLosses strict ns (g .goals) (g .tools) P) (widthIn g) (endAgain ns from to) 0 (length ns) xs
+  unfolding lossesOf
   goals-cached =
       record {
-        room = omega (arith, s .room, count sourceList lens, chains-are);
+        room = omega (arith, s .room, count (pickedList (g .picks)) lens, goals-end);
         cached = λ c r h l q.
-            let z : 0 + (c * goalWidth + r) ≡ c * goalWidth + r = omega arith in
+            let z : 0 + (c * widthIn g + r) ≡ c * widthIn g + r = omega arith in
             let b : c < length lens = omega (arith, chains-are) in
             ap (λ (k : ℕ). getD xs k nan) z
-            ∙ s .cached (c * goalWidth + r) (at-goal T sourceList lens c r true b l ∙ same c r l ∙ q)
-            ∙ at-goal (lossOf g P x) sourceList lens c r nan b l;
+            ∙ s .cached (c * widthIn g + r) (at-goal T (pickedList (g .picks)) lens c r true b l ∙ goal-touched strict c r l ∙ q)
+            ∙ at-goal (lossOf g P x) (pickedList (g .picks)) lens c r nan b l
+            ∙ ap (λ (k : List Float). getD k r nan) (goal-losses g P x strict c);
       }
-    where
-      same : (c r : ℕ) → r < goalWidth → getD (map T (goalObjectives c)) r true ≡ endAgain ns from to c
-      same c zero l = refl
-      same c (suc zero) l = refl
-      same c (suc (suc zero)) l = refl
-      same c (suc (suc (suc zero))) l = refl
-      same c (suc (suc (suc (suc zero)))) l = refl
-      same c (suc (suc (suc (suc (suc zero))))) l = refl
-      same c (suc (suc (suc (suc (suc (suc r)))))) l = absurd (omega arith)
 
   module _ (cur : List Float) (len : length cur ≡ length xs) where
-    pub limits-cached : (at : ℕ) → at ≡ goalWidth * length ns → ((i : ℕ) → at ≤ i → getD cur i nan ≡ getD xs i nan)
+    pub limits-cached : (at : ℕ) → at ≡ length ns * widthIn g → ((i : ℕ) → at ≤ i → getD cur i nan ≡ getD xs i nan)
         → CachedPieces (limitLosses (g .limits) x) 1 (isRaised joint) at (length x) cur
     unfolding lossesOf lossOf touched limitLosses
     limits-cached at e same =
         record {
-          room = omega (arith, s .room, count sourceList lens, chains-are, joints-are);
+          room = omega (arith, s .room, count (pickedList (g .picks)) lens, goals-end, joints-are);
           cached = λ j r h l q.
-              let z : at + (j * 1 + r) ≡ length lens * goalWidth + j = omega (arith, chains-are) in
+              let z : at + (j * 1 + r) ≡ length lens * widthIn g + j = omega (arith, goals-end) in
               let b : j < total lens = omega (arith, joints-are) in
               let r₀ : r ≡ 0 = omega arith in
               same (at + (j * 1 + r)) (omega arith)
               ∙ ap (λ (k : ℕ). getD xs k nan) z
-              ∙ s .cached (length lens * goalWidth + j) (at-limit T sourceList lens j true b ∙ q)
-              ∙ at-limit (lossOf g P x) sourceList lens j nan b
+              ∙ s .cached (length lens * widthIn g + j) (at-limit T (pickedList (g .picks)) lens j true b ∙ q)
+              ∙ at-limit (lossOf g P x) (pickedList (g .picks)) lens j nan b
               ∙ ap (λ (k : ℕ). getD (limitLoss (g .limits) x j ∷ []) k nan) (sym r₀);
         }
 
-    pub pairs-cached : (at : ℕ) → at ≡ goalWidth * length ns + length x + 4 → ((i : ℕ) → at ≤ i → getD cur i nan ≡ getD xs i nan)
+    pub pairs-cached : (at : ℕ) → at ≡ length ns * widthIn g + length x + 4 → ((i : ℕ) → at ≤ i → getD cur i nan ≡ getD xs i nan)
         → CachedPairs (pairLasts ns firstArm lens) (pairLosses ns P firstArm lens (anyNan x)) from at cur
     unfolding lossesOf lossOf touched pairObjective pairLasts pairLosses
     pairs-cached at e same =
         let ps : List Pair = allPairs firstArm lens in
         let many : length (map (pairLoss ns P (anyNan x)) ps) ≡ length ps = length-map ps (pairLoss ns P (anyNan x)) in
         record {
-          room = omega (arith, s .room, count sourceList lens, chains-are, joints-are);
+          room = omega (arith, s .room, count (pickedList (g .picks)) lens, goals-end, joints-are);
           cached = λ i h q.
-              let z : at + i ≡ length lens * goalWidth + (total lens + (4 + i)) = omega (arith, chains-are, joints-are) in
+              let z : at + i ≡ length lens * widthIn g + (total lens + (4 + i)) = omega (arith, goals-end, joints-are) in
               let b : i < length ps = omega arith in
               let l : ℕ = pairLast ns (getD ps i (pair 0 0 0)) in
               let t : leb from l ≡ false = lt-leb from l (omega (arith, map-at (pairLast ns) ps i (pair 0 0 0) 0 b)) in
               same (at + i) (omega arith)
               ∙ ap (λ (k : ℕ). getD xs k nan) z
-              ∙ s .cached (length lens * goalWidth + (total lens + (4 + i))) (at-pair T sourceList lens i true ∙ map-at (λ p. T (pairObjective p)) ps i (pair 0 0 0) true b ∙ t)
-              ∙ at-pair (lossOf g P x) sourceList lens i nan;
+              ∙ s .cached (length lens * widthIn g + (total lens + (4 + i))) (at-pair T (pickedList (g .picks)) lens i true ∙ map-at (λ p. T (pairObjective p)) ps i (pair 0 0 0) true b ∙ t)
+              ∙ at-pair (lossOf g P x) (pickedList (g .picks)) lens i nan;
         }
 
 -- ---- section after section
@@ -194,9 +212,9 @@ joined xs cur new ys zs k e₁ e₂ e₃ h =
 
 module _ (g : Given) (P : ℕ → Pose) (x : List Float) (o₀ o₁ : List Float) (w : total (g .counts) ≡ length (g .codes)) (v : length x ≡ joints (g .codes))
     (room : length (objectivesOf g) ≤ length o₀)
-    (e₁ : o₁ ≡ splice o₀ 0 (runs (goalLosses (g .counts) (g .goals) (g .tools) P) 0 (length (g .counts)))) where
+    (e₁ : o₁ ≡ splice o₀ 0 (runs (goalLosses (g .picks .strict) (g .counts) (g .goals) (g .tools) P) 0 (length (g .counts)))) where
   abbrev goals : List Float
-  goals = runs (goalLosses (g .counts) (g .goals) (g .tools) P) 0 (length (g .counts))
+  goals = runs (goalLosses (g .picks .strict) (g .counts) (g .goals) (g .tools) P) 0 (length (g .counts))
 
   abbrev limits : List Float
   limits = runs (limitLosses (g .limits) x) 0 (length x)
@@ -204,28 +222,34 @@ module _ (g : Given) (P : ℕ → Pose) (x : List Float) (o₀ o₁ : List Float
   abbrev motion : List Float
   motion = motionLosses P (g .counts) (g .codes) x (g .xopt) (g .«prev_state») (g .«prev_state2»)
 
-  pub enough : goalWidth * length (g .counts) + length x + 4 + length (allPairs firstArm (chainLengths (g .counts) (g .codes))) ≤ length o₀
+  pub enough : length (g .counts) * widthIn g + length x + 4 + length (allPairs firstArm (chainLengths (g .counts) (g .codes))) ≤ length o₀
   enough =
-      omega (arith, room, count sourceList (chainLengths (g .counts) (g .codes)), lengths-count (g .counts) (g .codes), lengths-total (g .counts) (g .codes) w)
+      omega (
+        arith,
+        room,
+        count (pickedList (g .picks)) (chainLengths (g .counts) (g .codes)),
+        ap (λ (n : ℕ). n * widthIn g) (lengths-count (g .counts) (g .codes)),
+        lengths-total (g .counts) (g .codes) w,
+      )
 
-  goals-many : length goals ≡ goalWidth * length (g .counts)
-  goals-many = length-runs (goalLosses (g .counts) (g .goals) (g .tools) P) goalWidth (goal-length (g .counts) (g .goals) (g .tools) P) 0 (length (g .counts)) ∙ omega arith
+  goals-many : length goals ≡ length (g .counts) * widthIn g
+  goals-many = length-runs (goalLosses (g .picks .strict) (g .counts) (g .goals) (g .tools) P) (widthIn g) (goal-length (g .picks .strict) (g .counts) (g .goals) (g .tools) P) 0 (length (g .counts)) ∙ omega arith
 
-  limits-many : length (goals ++ limits) ≡ goalWidth * length (g .counts) + length x
+  limits-many : length (goals ++ limits) ≡ length (g .counts) * widthIn g + length x
   limits-many =
       length-append goals limits ∙ omega (arith, goals-many, length-runs (limitLosses (g .limits) x) 1 (limit-length (g .limits) x) 0 (length x))
 
-  motion-many : length ((goals ++ limits) ++ motion) ≡ goalWidth * length (g .counts) + length x + 4
+  motion-many : length ((goals ++ limits) ++ motion) ≡ length (g .counts) * widthIn g + length x + 4
   motion-many = length-append (goals ++ limits) motion ∙ omega (arith, limits-many, motion-length P (g .counts) (g .codes) x (g .xopt) (g .«prev_state») (g .«prev_state2»))
 
   -- after the goals
   pub length-one : length o₁ ≡ length o₀
   length-one = ap length e₁ ∙ length-splice o₀ 0 goals (omega (arith, goals-many, enough))
 
-  pub behind-one : (i : ℕ) → goalWidth * length (g .counts) ≤ i → getD o₁ i nan ≡ getD o₀ i nan
+  pub behind-one : (i : ℕ) → length (g .counts) * widthIn g ≤ i → getD o₁ i nan ≡ getD o₀ i nan
   behind-one i h = behind o₀ o₁ goals i (omega (arith, goals-many, enough)) e₁ (omega (arith, goals-many))
 
-  module _ (o₂ : List Float) (k₂ : ℕ) (q₂ : k₂ ≡ goalWidth * length (g .counts)) (e₂ : o₂ ≡ splice o₁ k₂ limits) where
+  module _ (o₂ : List Float) (k₂ : ℕ) (q₂ : k₂ ≡ length (g .counts) * widthIn g) (e₂ : o₂ ≡ splice o₁ k₂ limits) where
     -- after the limits
     made-two : o₂ ≡ splice o₀ 0 (goals ++ limits)
     made-two = joined o₀ o₁ o₂ goals limits k₂ e₁ e₂ (omega (arith, goals-many)) (omega (arith, goals-many, enough))
@@ -233,7 +257,7 @@ module _ (g : Given) (P : ℕ → Pose) (x : List Float) (o₀ o₁ : List Float
     pub length-two : length o₂ ≡ length o₀
     length-two = ap length made-two ∙ length-splice o₀ 0 (goals ++ limits) (omega (arith, limits-many, enough))
 
-    module _ (o₃ : List Float) (k₃ : ℕ) (q₃ : k₃ ≡ goalWidth * length (g .counts) + length x) (e₃ : o₃ ≡ splice o₂ k₃ motion) where
+    module _ (o₃ : List Float) (k₃ : ℕ) (q₃ : k₃ ≡ length (g .counts) * widthIn g + length x) (e₃ : o₃ ≡ splice o₂ k₃ motion) where
       -- after the four of all joints
       made-three : o₃ ≡ splice o₀ 0 ((goals ++ limits) ++ motion)
       made-three = joined o₀ o₂ o₃ (goals ++ limits) motion k₃ made-two e₃ (omega (arith, limits-many)) (omega (arith, limits-many, enough))
@@ -241,11 +265,11 @@ module _ (g : Given) (P : ℕ → Pose) (x : List Float) (o₀ o₁ : List Float
       pub length-three : length o₃ ≡ length o₀
       length-three = ap length made-three ∙ length-splice o₀ 0 ((goals ++ limits) ++ motion) (omega (arith, motion-many, enough))
 
-      pub behind-three : (i : ℕ) → goalWidth * length (g .counts) + length x + 4 ≤ i → getD o₃ i nan ≡ getD o₀ i nan
+      pub behind-three : (i : ℕ) → length (g .counts) * widthIn g + length x + 4 ≤ i → getD o₃ i nan ≡ getD o₀ i nan
       behind-three i h = behind o₀ o₃ ((goals ++ limits) ++ motion) i (omega (arith, motion-many, enough)) made-three (omega (arith, motion-many))
 
       -- and after the pairs
-      pub losses-made : (o₄ : List Float) (k₄ : ℕ) → k₄ ≡ goalWidth * length (g .counts) + length x + 4
+      pub losses-made : (o₄ : List Float) (k₄ : ℕ) → k₄ ≡ length (g .counts) * widthIn g + length x + 4
           → o₄ ≡ splice o₃ k₄ (pairLosses (g .counts) P firstArm (chainLengths (g .counts) (g .codes)) (anyNan x)) → o₄ ≡ splice o₀ 0 (lossesOf g P x)
       losses-made o₄ k₄ q₄ e₄ =
           let last : List Float = pairLosses (g .counts) P firstArm (chainLengths (g .counts) (g .codes)) (anyNan x) in

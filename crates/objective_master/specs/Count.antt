@@ -1,5 +1,6 @@
--- How many objectives an accepted sheet has: at most 131, those of one chain of 16 joints.
+-- How many objectives an accepted sheet has: at most 131, those of one chain of 16 joints with tolerances.
 use mathlib.Core.Path.{_≡_, refl, sym, ap, _∙_}
+use mathlib.Core.Bool.{Bool, true, false}
 use mathlib.Core.Logic.{⊎-elim}
 use mathlib.Core.List.{List}
 use Prim.Native.Nat.{ℕ, zero, suc, _+_, _-_, _*_, _≤_, _<_}
@@ -9,23 +10,35 @@ use native.Mathlib.Omega.{arith}
 use lib.ListN.{length, getD}
 use Rattle.lists.specs.Runs.{runs}
 use Rattle.sheet.specs.Chain.{total, chainStart, chain-start-next, chain-start-total, jointOf, joints, joint-zero, joint-last, joint-mono, below-or, chainLength}
+use Rattle.task.specs.declared.picks.Picks.{Picks}
 use Rattle.manipulability.specs.Jacobian.{Counted, chain-part}
 use Rattle.self_collision.specs.Pairs.{chainPairs, allPairs, firstArm, chainLengths, triangle, count-more, chain-count, lengths-count}
-use Rattle.objective_master.specs.Objective.{goalWidth, sourceList, objectiveCount, count}
+use Rattle.objective_master.specs.Objective.{goalWidth, pickedList, objectives, objectiveCount, count}
 use Rattle.objective_master.specs.Losses.{lengths-total}
 
 -- ---- laws
 
 -- the count by chains, joints and pairs
-pub count-is : (ns cs : List ℕ) (j s : ℕ) → total ns ≡ length cs → j ≡ jointOf cs (chainStart ns (length ns)) → s ≡ length (runs (chainPairs firstArm (chainLengths ns cs)) 0 (length ns))
-    → goalWidth * length ns + j + 4 + s ≡ objectiveCount ns cs
+pub count-is : (p : Picks) (ns cs : List ℕ) (j s : ℕ) → total ns ≡ length cs → j ≡ jointOf cs (chainStart ns (length ns)) → s ≡ length (runs (chainPairs firstArm (chainLengths ns cs)) 0 (length ns))
+    → length ns * goalWidth (p .strict) + j + 4 + s ≡ objectiveCount p ns cs
 unfolding allPairs
-count-is ns cs j s w e₁ e₂ =
+count-is p ns cs j s w e₁ e₂ =
     let n : length (chainLengths ns cs) ≡ length ns = lengths-count ns cs in
     let m : jointOf cs (chainStart ns (length ns)) ≡ joints cs = ap (jointOf cs) (chain-start-total ns ∙ w) ∙ joint-last cs in
-    let p : length (runs (chainPairs firstArm (chainLengths ns cs)) 0 (length ns)) ≡ length (allPairs firstArm (chainLengths ns cs)) =
+    let q : length (runs (chainPairs firstArm (chainLengths ns cs)) 0 (length ns)) ≡ length (allPairs firstArm (chainLengths ns cs)) =
     ap (λ (k : ℕ). length (runs (chainPairs firstArm (chainLengths ns cs)) 0 k)) (sym n) in
-    omega (arith, count sourceList (chainLengths ns cs), lengths-total ns cs w)
+    omega (arith, count (pickedList p) (chainLengths ns cs), ap (λ (k : ℕ). k * goalWidth (p .strict)) n, lengths-total ns cs w)
+
+-- a chain's goal has at most six
+pub width-most : (strict : Bool) → goalWidth strict ≤ 6
+unfolding goalWidth
+width-most true = omega arith
+width-most false = omega arith
+
+-- the strict list has four fewer a chain
+pub strict-shorter : (lens : List ℕ) → length (objectives (pickedList (record { strict = true })) lens) + 4 * length lens ≡ length (objectives (pickedList (record { strict = false })) lens)
+unfolding goalWidth
+strict-shorter lens = omega (arith, count (pickedList (record { strict = true })) lens, count (pickedList (record { strict = false })) lens)
 
 triangle-twice : (m : ℕ) → 2 * triangle m ≡ m * suc m
 unfolding triangle
@@ -64,10 +77,11 @@ module _ (ns cs : List ℕ) (s : Counted ns cs) (two : (c : ℕ) → c < length 
       more : (c : ℕ) → length (runs (chainPairs firstArm (chainLengths ns cs)) 0 (suc c)) ≡ length (runs (chainPairs firstArm (chainLengths ns cs)) 0 c) + length (chainPairs firstArm (chainLengths ns cs) c)
       more c = rw add-one at (count-more (chainPairs firstArm (chainLengths ns cs)) c)
 
-  pub objectives-few : objectiveCount ns cs ≤ 131
+  pub objectives-few : (p : Picks) → objectiveCount p ns cs ≤ 131
   unfolding chainStart
-  objectives-few =
-      let c = count-is ns cs (jointOf cs (chainStart ns (length ns))) (length (runs (chainPairs firstArm (chainLengths ns cs)) 0 (length ns))) (s .whole) refl refl in
+  objectives-few p =
+      let w : length ns * goalWidth (p .strict) ≤ length ns * 6 = mul-le-mul-left (length ns) (width-most (p .strict)) in
+      let c = count-is p ns cs (jointOf cs (chainStart ns (length ns))) (length (runs (chainPairs firstArm (chainLengths ns cs)) 0 (length ns))) (s .whole) refl refl in
       let m : jointOf cs (chainStart ns (length ns)) ≡ joints cs = ap (jointOf cs) (chain-start-total ns ∙ s .whole) ∙ joint-last cs in
       let f = few-to (length ns) (omega arith) in
       ⊎-elim

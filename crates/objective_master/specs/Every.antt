@@ -1,5 +1,6 @@
--- What holds of every objective that `relaxed_ik` lists.
+-- What holds of every objective of a list.
 use mathlib.Core.Path.{_≡_, sym, ap, subst, _∙_}
+use mathlib.Core.Bool.{Bool, true, false}
 use mathlib.Core.Logic.{⊎-elim}
 use mathlib.Core.List.{List, _++_, map}
 use Prim.Native.Nat.{ℕ, zero, suc, _+_, _-_, _≤_, _<_}
@@ -10,7 +11,7 @@ use Rattle.lists.specs.Runs.{runs}
 use Rattle.sheet.specs.Chain.{total, below-or}
 use Rattle.self_collision.specs.Pairs.{Pair, pair, allPairs}
 use Rattle.self_collision.specs.Skip.{pairs-each}
-use Rattle.objective_master.specs.Objective.{Objective, MatchEEPosiDoF, MatchEERotaDoF, EachJointLimits, MinimizeVelocity, MinimizeAcceleration, MinimizeJerk, MaximizeManipulability, SelfCollision, goalObjectives, limitObjective, motionObjectives, pairObjective, Pick, objectives}
+use Rattle.objective_master.specs.Objective.{Objective, MatchEEPosiDoF, MatchEERotaDoF, MatchEEPosGoals, MatchEEQuatGoals, EachJointLimits, MinimizeVelocity, MinimizeAcceleration, MinimizeJerk, MaximizeManipulability, SelfCollision, goalObjectives, limitObjective, motionObjectives, pairObjective, ObjectiveList, objectives}
 use Rattle.objective_master.specs.Cached.{map-at}
 
 module _ (Q : Objective → Type 0) where
@@ -32,15 +33,19 @@ module _ (Q : Objective → Type 0) where
   every-runs f zero each = λ i h. absurd (omega arith)
   every-runs f (suc n) each = every-append (runs f 0 n) (f (0 + n)) (every-runs f n (λ c h. each c (omega arith))) (each (0 + n) (omega arith))
 
-  pub every-goal : (c : ℕ) → ((a : ℕ) → Q (MatchEEPosiDoF c a)) → ((a : ℕ) → Q (MatchEERotaDoF c a)) → Every (goalObjectives c)
+  pub every-goal : (strict : Bool) (c : ℕ) → ((a : ℕ) → Q (MatchEEPosiDoF c a)) → ((a : ℕ) → Q (MatchEERotaDoF c a))
+      → Q (MatchEEPosGoals c) → Q (MatchEEQuatGoals c) → Every (goalObjectives strict c)
   unfolding goalObjectives
-  every-goal c p r zero h = p 0
-  every-goal c p r (suc zero) h = p 1
-  every-goal c p r (suc (suc zero)) h = p 2
-  every-goal c p r (suc (suc (suc zero))) h = r 0
-  every-goal c p r (suc (suc (suc (suc zero)))) h = r 1
-  every-goal c p r (suc (suc (suc (suc (suc zero))))) h = r 2
-  every-goal c p r (suc (suc (suc (suc (suc (suc i)))))) h = absurd (omega arith)
+  every-goal true c p r pos quat zero h = pos
+  every-goal true c p r pos quat (suc zero) h = quat
+  every-goal true c p r pos quat (suc (suc i)) h = absurd (omega arith)
+  every-goal false c p r pos quat zero h = p 0
+  every-goal false c p r pos quat (suc zero) h = p 1
+  every-goal false c p r pos quat (suc (suc zero)) h = p 2
+  every-goal false c p r pos quat (suc (suc (suc zero))) h = r 0
+  every-goal false c p r pos quat (suc (suc (suc (suc zero)))) h = r 1
+  every-goal false c p r pos quat (suc (suc (suc (suc (suc zero))))) h = r 2
+  every-goal false c p r pos quat (suc (suc (suc (suc (suc (suc i)))))) h = absurd (omega arith)
 
   every-limit : (j : ℕ) → Q (EachJointLimits j) → Every (limitObjective j)
   unfolding limitObjective
@@ -63,16 +68,16 @@ module _ (Q : Objective → Type 0) where
       let l : i < length ps = omega (arith, length-map ps pairObjective) in
       subst Q (sym (map-at pairObjective ps i (pair 0 0 0) MinimizeVelocity l)) (pairs-each (λ (p : Pair). Q (pairObjective p)) arms lens pairs i l)
 
-  pub objectives-each : (pick : Pick) (lens : List ℕ)
-      → ((c : ℕ) → c < length lens → Every (pick .goals c)) → ((j : ℕ) → j < total lens → Q (EachJointLimits j))
+  pub objectives-each : (list : ObjectiveList) (lens : List ℕ)
+      → ((c : ℕ) → c < length lens → Every (list .goals c)) → ((j : ℕ) → j < total lens → Q (EachJointLimits j))
       → Q MinimizeVelocity → Q MinimizeAcceleration → Q MinimizeJerk → Q MaximizeManipulability
-      → ((c j k : ℕ) → c < length lens → j + 2 ≤ k → k < getD lens c 0 → Q (SelfCollision (pick .arms c) j k))
-      → Every (objectives pick lens)
+      → ((c j k : ℕ) → c < length lens → j + 2 ≤ k → k < getD lens c 0 → Q (SelfCollision (list .arms c) j k))
+      → Every (objectives list lens)
   unfolding objectives
-  objectives-each pick lens goals limits velocity acceleration jerk manipulability pairs =
-      let last : List Objective = map pairObjective (allPairs (pick .arms) lens) in
-      every-append (runs (pick .goals) 0 (length lens)) (runs limitObjective 0 (total lens) ++ (motionObjectives ++ last))
-      (every-runs (pick .goals) (length lens) goals)
+  objectives-each list lens goals limits velocity acceleration jerk manipulability pairs =
+      let last : List Objective = map pairObjective (allPairs (list .arms) lens) in
+      every-append (runs (list .goals) 0 (length lens)) (runs limitObjective 0 (total lens) ++ (motionObjectives ++ last))
+      (every-runs (list .goals) (length lens) goals)
       (every-append (runs limitObjective 0 (total lens)) (motionObjectives ++ last)
       (every-runs limitObjective (total lens) (λ j h. every-limit j (limits j h)))
-      (every-append motionObjectives last (every-motion velocity acceleration jerk manipulability) (every-pair (pick .arms) lens pairs)))
+      (every-append motionObjectives last (every-motion velocity acceleration jerk manipulability) (every-pair (list .arms) lens pairs)))

@@ -1,4 +1,5 @@
 pub mod Objective
+pub mod Strict
 pub mod Weights
 pub mod Losses
 pub mod Cached

@@ -1,6 +1,6 @@
 -- What each objective costs: of the poses P after each link, and the joints x that were walked.
 use mathlib.Core.Path.{_≡_, refl, sym, ap, _∙_}
-use mathlib.Core.Bool.{cond}
+use mathlib.Core.Bool.{Bool, true, false, cond}
 use mathlib.Core.List.{List, [], _∷_, _++_, map}
 use Prim.Native.Nat.{ℕ, zero, suc, _+_, _-_, _*_}
 use native.Mathlib.Omega.{arith}
@@ -13,7 +13,7 @@ use Rattle.geometry.specs.declared.quaternion.Quat.{Quat}
 use Rattle.geometry.specs.declared.pose.Pose.{Pose}
 use Rattle.geometry.specs.Vector.{subOf}
 use Rattle.geometry.specs.Quaternion.{inverseOf, productOf, rotateOf, scaledAxisOf}
-use Rattle.lists.specs.Runs.{runs}
+use Rattle.lists.specs.Runs.{runs, runs-ext}
 use Rattle.lists.specs.Listed.{listed}
 use Rattle.sheet.specs.Chain.{total, chainStart, chain-start-next, chain-start-total, jointOf, joint-mono, joint-last, joints, chainLength}
 use Rattle.task.specs.Task.{taskLength, Given}
@@ -23,7 +23,8 @@ use Rattle.manipulability.specs.View.{View}
 use Rattle.manipulability.specs.Jacobian.{manipulabilityOf}
 use Rattle.groove.specs.Loss.{matchEEPosiDoF, matchEERotaDoF, eachJointLimits, minimizeVelocity, minimizeAcceleration, minimizeJerk, maximizeManipulability, velocityOf, accelerationOf, jerkOf, anyNan}
 use Rattle.self_collision.specs.Pairs.{pair, firstArm, chainLengths, pairLoss, pairLosses, Paired, lengths-count}
-use Rattle.objective_master.specs.Objective.{Objective, MatchEEPosiDoF, MatchEERotaDoF, EachJointLimits, MinimizeVelocity, MinimizeAcceleration, MinimizeJerk, MaximizeManipulability, SelfCollision, goalWidth, goalObjectives, motionObjectives, pairObjective, sourceList, objectives, sections}
+use Rattle.objective_master.specs.Objective.{Objective, MatchEEPosiDoF, MatchEERotaDoF, MatchEEPosGoals, MatchEEQuatGoals, EachJointLimits, MinimizeVelocity, MinimizeAcceleration, MinimizeJerk, MaximizeManipulability, SelfCollision, goalWidth, goalObjectives, motionObjectives, pairObjective, pickedList, objectives, sections}
+use Rattle.objective_master.specs.Strict.{posGoalsLoss, quatGoalsLoss}
 
 -- component a of a vector: x, y, z for 0, 1, 2
 unfoldable pub componentOf : Vec3 → ℕ → Float
@@ -62,6 +63,8 @@ limitLoss limits x j = eachJointLimits (getD x j nan) (getD limits (2 * j) nan) 
 unfoldable pub lossOf : Given → (ℕ → Pose) → List Float → Objective → Float
 lossOf g P x (MatchEEPosiDoF c a) = offLoss (g .goals) c (endOf (g .counts) (g .tools) P c) a
 lossOf g P x (MatchEERotaDoF c a) = turnLoss (g .goals) c (endOf (g .counts) (g .tools) P c) a
+lossOf g P x (MatchEEPosGoals c) = posGoalsLoss (goalPosition (g .goals) c) (endOf (g .counts) (g .tools) P c .position)
+lossOf g P x (MatchEEQuatGoals c) = quatGoalsLoss (goalQuat (g .goals) c) (endOf (g .counts) (g .tools) P c .rotation)
 lossOf g P x (EachJointLimits j) = limitLoss (g .limits) x j
 lossOf g P x MinimizeVelocity = minimizeVelocity (velocityOf x (g .xopt))
 lossOf g P x MinimizeAcceleration = minimizeAcceleration (accelerationOf x (g .xopt) (g .«prev_state»))
@@ -69,9 +72,9 @@ lossOf g P x MinimizeJerk = minimizeJerk (jerkOf x (g .xopt) (g .«prev_state»)
 lossOf g P x MaximizeManipulability = maximizeManipulability (manipulabilityOf P (g .counts) (g .codes))
 lossOf g P x (SelfCollision arm j k) = pairLoss (g .counts) P (anyNan x) (pair arm j k)
 
--- the objectives of a sheet
+-- the objectives of a sheet, of the list that was picked
 abbrev pub objectivesOf : Given → List Objective
-objectivesOf g = objectives sourceList (chainLengths (g .counts) (g .codes))
+objectivesOf g = objectives (pickedList (g .picks)) (chainLengths (g .counts) (g .codes))
 
 -- what they cost, in their order
 unfoldable pub lossesOf : Given → (ℕ → Pose) → List Float → List Float
@@ -86,11 +89,15 @@ offLosses goals c end = offLoss goals c end 0 ∷ offLoss goals c end 1 ∷ offL
 unfoldable pub turnLosses : List Float → ℕ → Pose → List Float
 turnLosses goals c end = turnLoss goals c end 0 ∷ turnLoss goals c end 1 ∷ turnLoss goals c end 2 ∷ []
 
-unfoldable pub poseLosses : List Float → ℕ → Pose → List Float
-poseLosses goals c end = offLosses goals c end ++ turnLosses goals c end
+unfoldable pub strictLosses : List Float → ℕ → Pose → List Float
+strictLosses goals c end = posGoalsLoss (goalPosition goals c) (end .position) ∷ quatGoalsLoss (goalQuat goals c) (end .rotation) ∷ []
 
-unfoldable pub goalLosses : List ℕ → List Float → List Float → (ℕ → Pose) → ℕ → List Float
-goalLosses ns goals tools P c = poseLosses goals c (endOf ns tools P c)
+unfoldable pub poseLosses : Bool → List Float → ℕ → Pose → List Float
+poseLosses true goals c end = strictLosses goals c end
+poseLosses false goals c end = offLosses goals c end ++ turnLosses goals c end
+
+unfoldable pub goalLosses : Bool → List ℕ → List Float → List Float → (ℕ → Pose) → ℕ → List Float
+goalLosses strict ns goals tools P c = poseLosses strict goals c (endOf ns tools P c)
 
 -- the one of joint j's limits
 unfoldable pub limitLosses : List Float → List Float → ℕ → List Float
@@ -117,9 +124,10 @@ pub losses-many : (g : Given) (P : ℕ → Pose) (x : List Float) → length (lo
 unfolding lossesOf
 losses-many g P x = length-map (objectivesOf g) (lossOf g P x)
 
-pub goal-length : (ns : List ℕ) (goals tools : List Float) (P : ℕ → Pose) (c : ℕ) → length (goalLosses ns goals tools P c) ≡ goalWidth
-unfolding goalLosses poseLosses offLosses turnLosses
-goal-length ns goals tools P c = refl
+pub goal-length : (strict : Bool) (ns : List ℕ) (goals tools : List Float) (P : ℕ → Pose) (c : ℕ) → length (goalLosses strict ns goals tools P c) ≡ goalWidth strict
+unfolding goalWidth goalLosses poseLosses strictLosses offLosses turnLosses
+goal-length true ns goals tools P c = refl
+goal-length false ns goals tools P c = refl
 
 pub limit-length : (limits x : List Float) (j : ℕ) → length (limitLosses limits x j) ≡ 1
 unfolding limitLosses
@@ -160,15 +168,23 @@ module _ (g : Given) (P : ℕ → Pose) (x : List Float) where
   abbrev lens : List ℕ
   lens = chainLengths (g .counts) (g .codes)
 
+  -- what the objectives of a chain's goal cost
+  pub goal-losses : (strict : Bool) (c : ℕ) → map (lossOf g P x) (goalObjectives strict c) ≡ goalLosses strict (g .counts) (g .goals) (g .tools) P c
+  unfolding lossOf goalObjectives goalLosses poseLosses strictLosses offLosses turnLosses
+  goal-losses true c = refl
+  goal-losses false c = refl
+
   -- the list of losses by sections
   pub losses-sections : total (g .counts) ≡ length (g .codes) → length x ≡ joints (g .codes)
-      → lossesOf g P x ≡ runs (goalLosses (g .counts) (g .goals) (g .tools) P) 0 (length (g .counts))
+      → lossesOf g P x ≡ runs (goalLosses (g .picks .strict) (g .counts) (g .goals) (g .tools) P) 0 (length (g .counts))
       ++ (runs (limitLosses (g .limits) x) 0 (length x)
       ++ (motionLosses P (g .counts) (g .codes) x (g .xopt) (g .«prev_state») (g .«prev_state2»)
       ++ pairLosses (g .counts) P firstArm (chainLengths (g .counts) (g .codes)) (anyNan x)))
-  unfolding lossesOf lossOf goalObjectives motionObjectives pairObjective goalLosses poseLosses offLosses turnLosses limitLosses changeLosses motionLosses pairLosses
+  unfolding lossesOf lossOf motionObjectives pairObjective limitLosses changeLosses motionLosses pairLosses
   losses-sections w v =
+      let goals : ℕ → List Float = goalLosses (g .picks .strict) ns (g .goals) (g .tools) P in
       let rest : List Float = motionLosses P ns (g .codes) x (g .xopt) (g .«prev_state») (g .«prev_state2») ++ pairLosses ns P firstArm lens (anyNan x) in
-      sections (lossOf g P x) sourceList lens
-      ∙ ap (λ (n : ℕ). runs (goalLosses ns (g .goals) (g .tools) P) 0 n ++ (runs (limitLosses (g .limits) x) 0 (total lens) ++ rest)) (lengths-count ns (g .codes))
-      ∙ ap (λ (n : ℕ). runs (goalLosses ns (g .goals) (g .tools) P) 0 (length ns) ++ (runs (limitLosses (g .limits) x) 0 n ++ rest)) (lengths-total ns (g .codes) w ∙ sym v)
+      sections (lossOf g P x) (pickedList (g .picks)) lens
+      ∙ ap (λ (l : List Float). l ++ (runs (limitLosses (g .limits) x) 0 (total lens) ++ rest)) (runs-ext (λ c. map (lossOf g P x) (goalObjectives (g .picks .strict) c)) goals 0 (length lens) (λ i h. goal-losses (g .picks .strict) (0 + i)))
+      ∙ ap (λ (n : ℕ). runs goals 0 n ++ (runs (limitLosses (g .limits) x) 0 (total lens) ++ rest)) (lengths-count ns (g .codes))
+      ∙ ap (λ (n : ℕ). runs goals 0 (length ns) ++ (runs (limitLosses (g .limits) x) 0 n ++ rest)) (lengths-total ns (g .codes) w ∙ sym v)

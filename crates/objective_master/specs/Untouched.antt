@@ -17,8 +17,9 @@ use Rattle.manipulability.specs.Jacobian.{manipulability-ext}
 use Rattle.groove.specs.Loss.{anyNan, maximizeManipulability, eachJointLimits}
 use Rattle.self_collision.specs.Pairs.{Pair, pair, firstArm, chainLengths, pairLoss, pairLast, Paired, lengths-count, lengths-at, arm-fits}
 use Rattle.self_collision.specs.Skip.{skipped}
-use Rattle.objective_master.specs.Objective.{Objective, MinimizeVelocity, sourceList, objectives}
-use Rattle.objective_master.specs.Losses.{offLoss, turnLoss, limitLoss, lossOf, lossesOf, objectivesOf}
+use Rattle.objective_master.specs.Objective.{Objective, MinimizeVelocity, ObjectiveList, pickedList, objectives}
+use Rattle.objective_master.specs.Strict.{posGoalsLoss, quatGoalsLoss}
+use Rattle.objective_master.specs.Losses.{goalPosition, goalQuat, offLoss, turnLoss, limitLoss, lossOf, lossesOf, objectivesOf}
 use Rattle.manipulability.specs.View.{walkedAgain}
 use Rattle.objective_master.specs.Cached.{endAgain, isRaised, touched, Cached, map-at}
 use Rattle.objective_master.specs.Every.{every-goal, objectives-each}
@@ -27,6 +28,9 @@ use Rattle.objective_master.specs.Every.{every-goal, objectives-each}
 module _ (g : Given) (chains : Chains (g .counts)) where
   abbrev lens₀ : List ℕ
   lens₀ = chainLengths (g .counts) (g .codes)
+
+  abbrev list₀ : ObjectiveList
+  list₀ = pickedList (g .picks)
 
   abbrev T₀ : Objective → Bool
   T₀ = touched (g .counts) 0 (total (g .counts)) 65535
@@ -39,16 +43,16 @@ module _ (g : Given) (chains : Chains (g .counts)) where
       let e : ℕ = chainStart ns c + getD ns c 0 - 1 in
       rw (le-leb 0 e (omega arith), lt-ltb e (total ns) (omega (arith, chain-within ns c l, chains .some c l)))
 
-  all-new : (i : ℕ) → getD (map T₀ (objectives sourceList lens₀)) i true ≡ true
+  all-new : (i : ℕ) → getD (map T₀ (objectives list₀ lens₀)) i true ≡ true
   unfolding touched isRaised
   all-new i =
       ⊎-elim
-      (λ (l : i < length (objectives sourceList lens₀)).
-      map-at T₀ (objectives sourceList lens₀) i MinimizeVelocity true l
-      ∙ objectives-each (λ (o : Objective). T₀ o ≡ true) sourceList lens₀ (λ c h. every-goal (λ (o : Objective). T₀ o ≡ true) c (λ a. end-new c h) (λ a. end-new c h))
+      (λ (l : i < length (objectives list₀ lens₀)).
+      map-at T₀ (objectives list₀ lens₀) i MinimizeVelocity true l
+      ∙ objectives-each (λ (o : Objective). T₀ o ≡ true) list₀ lens₀ (λ c h. every-goal (λ (o : Objective). T₀ o ≡ true) (g .picks .strict) c (λ a. end-new c h) (λ a. end-new c h) (end-new c h) (end-new c h))
       (λ j h. rw (eq-eqb 65535 65535 refl)) refl refl refl refl (λ c j k h a b. le-leb 0 (pairLast (g .counts) (pair (firstArm c) j k)) (omega arith)) i l)
-      (λ (l : length (objectives sourceList lens₀) ≤ i). List·getD-eq-default (map T₀ (objectives sourceList lens₀)) true (omega (arith, length-map (objectives sourceList lens₀) T₀)))
-      (below-or i (length (objectives sourceList lens₀)))
+      (λ (l : length (objectives list₀ lens₀) ≤ i). List·getD-eq-default (map T₀ (objectives list₀ lens₀)) true (omega (arith, length-map (objectives list₀ lens₀) T₀)))
+      (below-or i (length (objectives list₀ lens₀)))
 
   pub cached-new : (P : ℕ → Pose) (x out : List Float) → length (objectivesOf g) ≤ length out → Cached g P x 0 (total (g .counts)) 65535 out
   cached-new P x out h = record { room = h; cached = λ i q. absurd (true≢false (sym (all-new i) ∙ q)) }
@@ -60,7 +64,7 @@ module _ (g : Given) (chains : Chains (g .counts)) where
 module _ (g : Given) (P Q : ℕ → Pose) (x y : List Float) (from to joint : ℕ) (poses : (l : ℕ) → walkedAgain from to l ≡ false → P l ≡ Q l)
     (values : (j : ℕ) → isRaised joint j ≡ false → getD x j nan ≡ getD y j nan) (numbers : anyNan x ≡ anyNan y) where
   abbrev os : List Objective
-  os = objectives sourceList (chainLengths (g .counts) (g .codes))
+  os = objectives (pickedList (g .picks)) (chainLengths (g .counts) (g .codes))
 
   abbrev T : Objective → Bool
   T = touched (g .counts) from to joint
@@ -74,10 +78,14 @@ module _ (g : Given) (P Q : ℕ → Pose) (x y : List Float) (from to joint : �
   unfolding touched lossOf endAgain limitLoss
   untouched =
       let Same : Objective → Type 0 = λ o. T o ≡ false → lossOf g P x o ≡ lossOf g Q y o in
-      objectives-each Same sourceList (chainLengths (g .counts) (g .codes))
-      (λ c h. every-goal Same c
-      (λ a q. ap (λ (p : Pose). offLoss (g .goals) c (tipOf (g .tools) c p) a) (poses (chainStart (g .counts) c + getD (g .counts) c 0 - 1) q))
-      (λ a q. ap (λ (p : Pose). turnLoss (g .goals) c (tipOf (g .tools) c p) a) (poses (chainStart (g .counts) c + getD (g .counts) c 0 - 1) q)))
+      objectives-each Same (pickedList (g .picks)) (chainLengths (g .counts) (g .codes))
+      (λ c h.
+      let end : ℕ = chainStart (g .counts) c + getD (g .counts) c 0 - 1 in
+      every-goal Same (g .picks .strict) c
+      (λ a q. ap (λ (p : Pose). offLoss (g .goals) c (tipOf (g .tools) c p) a) (poses end q))
+      (λ a q. ap (λ (p : Pose). turnLoss (g .goals) c (tipOf (g .tools) c p) a) (poses end q))
+      (λ q. ap (λ (p : Pose). posGoalsLoss (goalPosition (g .goals) c) (tipOf (g .tools) c p .position)) (poses end q))
+      (λ q. ap (λ (p : Pose). quatGoalsLoss (goalQuat (g .goals) c) (tipOf (g .tools) c p .rotation)) (poses end q)))
       (λ j h q. ap (λ (v : Float). eachJointLimits v (getD (g .limits) (2 * j) nan) (getD (g .limits) (2 * j + 1) nan)) (values j q))
       (λ q. absurd (true≢false q)) (λ q. absurd (true≢false q)) (λ q. absurd (true≢false q)) (λ q. absurd (true≢false q))
       (λ c j k h a b q.
@@ -121,9 +129,13 @@ losses-ext g P Q x chains paired same =
     let last : (c : ℕ) → c < length lens → endOf ns (g .tools) P c ≡ endOf ns (g .tools) Q c =
     λ c h. ap (tipOf (g .tools) c) (same (chainStart ns c + getD ns c 0 - 1) (omega (arith, chain-within ns c (omega arith), chains .some c (omega arith)))) in
     let Same : Objective → Type 0 = λ o. lossOf g P x o ≡ lossOf g Q x o in
-    map-same (lossOf g P x) (lossOf g Q x) (objectives sourceList lens)
-    (objectives-each Same sourceList lens
-    (λ c h. every-goal Same c (λ a. ap (λ (p : Pose). offLoss (g .goals) c p a) (last c h)) (λ a. ap (λ (p : Pose). turnLoss (g .goals) c p a) (last c h)))
+    map-same (lossOf g P x) (lossOf g Q x) (objectives (pickedList (g .picks)) lens)
+    (objectives-each Same (pickedList (g .picks)) lens
+    (λ c h. every-goal Same (g .picks .strict) c
+    (λ a. ap (λ (p : Pose). offLoss (g .goals) c p a) (last c h))
+    (λ a. ap (λ (p : Pose). turnLoss (g .goals) c p a) (last c h))
+    (ap (λ (p : Pose). posGoalsLoss (goalPosition (g .goals) c) (p .position)) (last c h))
+    (ap (λ (p : Pose). quatGoalsLoss (goalQuat (g .goals) c) (p .rotation)) (last c h)))
     (λ j h. refl) refl refl refl (ap maximizeManipulability (manipulability-ext P Q ns cs same))
     (λ c j k h a b.
     skipped ns P Q (anyNan x) (length cs) (λ l m. same l (omega arith)) (pair (firstArm c) j k) (omega arith)

@@ -8,12 +8,14 @@ use native.Mathlib.Omega.{arith}
 use lib.Ieee.{Float, nan, binary64, ofBits}
 use lib.ListN.{length, getD, take, length-map}
 use Rattle.standins.specs.Num.{_⊕_, _⊗_, nought}
-use Rattle.objective_master.specs.Objective.{Objective, MatchEEPosiDoF, MatchEERotaDoF, EachJointLimits, MinimizeVelocity, MinimizeAcceleration, MinimizeJerk, MaximizeManipulability, SelfCollision}
+use Rattle.objective_master.specs.Objective.{Objective, MatchEEPosiDoF, MatchEERotaDoF, MatchEEPosGoals, MatchEEQuatGoals, EachJointLimits, MinimizeVelocity, MinimizeAcceleration, MinimizeJerk, MaximizeManipulability, SelfCollision}
 
 -- the number of an objective's kind
 unfoldable pub kindNumber : Objective → ℕ
 kindNumber (MatchEEPosiDoF c a) = 0
 kindNumber (MatchEERotaDoF c a) = 1
+kindNumber (MatchEEPosGoals c) = 0
+kindNumber (MatchEEQuatGoals c) = 1
 kindNumber (EachJointLimits j) = 2
 kindNumber MinimizeVelocity = 3
 kindNumber MinimizeAcceleration = 4

@@ -1,6 +1,7 @@
 // How many objectives `relaxed_ik` lists.
-use crate::relaxed_ik::GOAL_WIDTH;
+use crate::relaxed_ik;
 use sheet::chain;
+use task::picks::Picks;
 ghost use mathlib.Core.Path.{_≡_};
 ghost use Prim.Native.Nat.{_-_, _≤_};
 ghost use lib.ListN.{length};
@@ -22,9 +23,9 @@ fn pair_count(n: usize) -> usize
     s
 }
 
-pub fn objective_count(counts: &[u16], codes: &[u16]) -> usize
+pub fn objective_count(counts: &[u16], codes: &[u16], picks: Picks) -> usize
     requires { ⌜ Counted (now counts) (now codes) × (length (now counts) ≤ 4) ⌝ }
-    ensures { λ r. ⌜ r ≡ objectiveCount (now (counts .entry)) (now (codes .entry)) ⌝ }
+    ensures { λ r. ⌜ r ≡ objectiveCount picks (now (counts .entry)) (now (codes .entry)) ⌝ }
 {
     let mut s: usize = 0;
     let mut l: usize = 0;
@@ -38,5 +39,5 @@ pub fn objective_count(counts: &[u16], codes: &[u16]) -> usize
         joint = next;
         c += 1;
     }
-    GOAL_WIDTH * counts.len() + joint + 4 + s
+    relaxed_ik::goals_to(picks, counts.len()) + joint + 4 + s
 }

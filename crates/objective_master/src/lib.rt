@@ -2,4 +2,5 @@
 pub mod count;
 pub mod losses;
 pub mod relaxed_ik;
+pub mod strict;
 pub mod weights;

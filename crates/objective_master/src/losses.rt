@@ -1,5 +1,6 @@
 // objective.rs and `relaxed_ik`: what the objectives cost, in their order, of poses read through a view.
-use crate::relaxed_ik::GOAL_WIDTH;
+use crate::relaxed_ik;
+use crate::strict;
 use geometry::pose::Pose;
 use geometry::quaternion;
 use geometry::vector;
@@ -12,7 +13,10 @@ use spacetime::floats;
 use spacetime::tool;
 use standins::cut;
 use task::parts;
+use task::picks::Picks;
 ghost use mathlib.Core.Path.{_≡_};
+ghost use mathlib.Core.Bool.{true, false};
+ghost use mathlib.Core.List.{_++_};
 ghost use Prim.Native.Nat.{_+_, _*_, _≤_, _<_};
 ghost use lib.ListN.{length};
 ghost use Rattle.lists.specs.Splice.{splice};
@@ -25,7 +29,7 @@ ghost use Rattle.spacetime.specs.Frames.{Chains};
 ghost use Rattle.manipulability.specs.View.{viewOf, View, walkedAgain};
 ghost use Rattle.manipulability.specs.Jacobian.{Counted};
 ghost use Rattle.objective_master.specs.Objective.{goalWidth};
-ghost use Rattle.objective_master.specs.Losses.{toleranceAt, offGoal, turnFromGoal, offLosses, turnLosses, poseLosses, goalLosses, limitLosses, changeLosses, motionLosses, lossesOf, Lent};
+ghost use Rattle.objective_master.specs.Losses.{toleranceAt, offGoal, turnFromGoal, offLosses, turnLosses, strictLosses, poseLosses, goalLosses, limitLosses, changeLosses, motionLosses, lossesOf, Lent};
 ghost use Rattle.objective_master.specs.Cached.{endAgain, isRaised, CachedPiece, CachedPieces, Cached};
 
 // What was walked again: the links from..to, with `joint` raised. All links are new in a first walk, and so are all joints (65535).
@@ -88,14 +92,36 @@ fn turn_losses(goals: &[f64], c: usize, end: Pose) -> Vec3
     }
 }
 
-fn put_pose_losses(goals: &[f64], c: usize, end: Pose, at: usize, out: &mut [f64])
-    requires { ⌜ (13 * c + 13 ≤ length (now goals)) × (at + goalWidth ≤ length (now out)) ⌝ }
-    ensures { λ _. ⌜ now (out .exit) ≡ splice (now (out .entry)) at (poseLosses (now (goals .entry)) c end) ⌝ }
+fn put_tolerance_losses(goals: &[f64], c: usize, end: Pose, at: usize, out: &mut [f64])
+    requires { ⌜ (13 * c + 13 ≤ length (now goals)) × (at + goalWidth false ≤ length (now out)) ⌝ }
+    ensures { λ _. ⌜ now (out .exit) ≡ splice (now (out .entry)) at (offLosses (now (goals .entry)) c end ++ turnLosses (now (goals .entry)) c end) ⌝ }
 {
     let offs = off_losses(goals, c, end);
     let turns = turn_losses(goals, c, end);
     floats::put_vec(out, at, offs);
     floats::put_vec(out, at + 3, turns);
+}
+
+fn put_strict_losses(goals: &[f64], c: usize, end: Pose, at: usize, out: &mut [f64])
+    requires { ⌜ (13 * c + 13 ≤ length (now goals)) × (at + goalWidth true ≤ length (now out)) ⌝ }
+    ensures { λ _. ⌜ now (out .exit) ≡ splice (now (out .entry)) at (strictLosses (now (goals .entry)) c end) ⌝ }
+{
+    let goal_position = floats::get_vec(goals, 13 * c);
+    let goal_quat = floats::get_quat(goals, 13 * c + 3);
+    out[at] = strict::pos_goals_loss(goal_position, end.position);
+    out[at + 1] = strict::quat_goals_loss(goal_quat, end.rotation);
+}
+
+// Of the list that was picked.
+fn put_pose_losses(goals: &[f64], c: usize, end: Pose, picks: Picks, at: usize, out: &mut [f64])
+    requires { ⌜ (13 * c + 13 ≤ length (now goals)) × (at + goalWidth (picks .strict) ≤ length (now out)) ⌝ }
+    ensures { λ _. ⌜ now (out .exit) ≡ splice (now (out .entry)) at (poseLosses (picks .strict) (now (goals .entry)) c end) ⌝ }
+{
+    if picks.strict {
+        put_strict_losses(goals, c, end, at, out);
+        return;
+    }
+    put_tolerance_losses(goals, c, end, at, out);
 }
 
 // Chain c's goal. If its last link was not walked again, its losses stand already.
@@ -104,23 +130,24 @@ fn put_goal(
     tools: &[f64],
     base: &[f64],
     tail: &[f64],
-    from: usize,
-    to: usize,
+    walked: Walked,
     link: usize,
     c: usize,
+    picks: Picks,
+    at: usize,
     out: &mut [f64],
 )
-    requires { ⌜ (13 * c + 13 ≤ length (now goals)) × (8 * c + 8 ≤ length (now tools)) × (goalWidth * c + goalWidth ≤ length (now out)) ⌝ }
-    requires { ⌜ View (now base) (now tail) from to (link + 1) ⌝ }
-    requires { ⌜ CachedPiece (walkedAgain from to link) (goalWidth * c)
-        (poseLosses (now goals) c (tipOf (now tools) c (viewOf (now base) (now tail) from to link))) (now out) ⌝ }
-    ensures { λ _. ⌜ now (out .exit) ≡ splice (now (out .entry)) (goalWidth * c)
-        (poseLosses (now (goals .entry)) c (tipOf (now (tools .entry)) c (viewOf (now (base .entry)) (now (tail .entry)) from to link))) ⌝ }
+    requires { ⌜ (13 * c + 13 ≤ length (now goals)) × (8 * c + 8 ≤ length (now tools)) × (at + goalWidth (picks .strict) ≤ length (now out)) ⌝ }
+    requires { ⌜ View (now base) (now tail) (walked .from) (walked .to) (link + 1) ⌝ }
+    requires { ⌜ CachedPiece (walkedAgain (walked .from) (walked .to) link) at
+        (poseLosses (picks .strict) (now goals) c (tipOf (now tools) c (viewOf (now base) (now tail) (walked .from) (walked .to) link))) (now out) ⌝ }
+    ensures { λ _. ⌜ now (out .exit) ≡ splice (now (out .entry)) at
+        (poseLosses (picks .strict) (now (goals .entry)) c (tipOf (now (tools .entry)) c (viewOf (now (base .entry)) (now (tail .entry)) (walked .from) (walked .to) link))) ⌝ }
 {
-    if view::walked_again(from, to, link) {
-        let last = view::pose(base, tail, from, to, link);
+    if view::walked_again(walked.from, walked.to, link) {
+        let last = view::pose(base, tail, walked.from, walked.to, link);
         let end = tool::tip(tools, c, last);
-        put_pose_losses(goals, c, end, GOAL_WIDTH * c, out);
+        put_pose_losses(goals, c, end, picks, at, out);
         return;
     }
 }
@@ -132,22 +159,23 @@ fn put_goals(
     tools: &[f64],
     base: &[f64],
     tail: &[f64],
-    from: usize,
-    to: usize,
+    walked: Walked,
+    picks: Picks,
     out: &mut [f64],
 )
     requires { ⌜ Chains (now counts) × (13 * length (now counts) ≤ length (now goals)) × (8 * length (now counts) ≤ length (now tools)) ⌝ }
-    requires { ⌜ View (now base) (now tail) from to (total (now counts)) ⌝ }
-    requires { ⌜ CachedPieces (goalLosses (now counts) (now goals) (now tools) (viewOf (now base) (now tail) from to)) goalWidth
-        (endAgain (now counts) from to) 0 (length (now counts)) (now out) ⌝ }
+    requires { ⌜ View (now base) (now tail) (walked .from) (walked .to) (total (now counts)) ⌝ }
+    requires { ⌜ CachedPieces (goalLosses (picks .strict) (now counts) (now goals) (now tools) (viewOf (now base) (now tail) (walked .from) (walked .to))) (goalWidth (picks .strict))
+        (endAgain (now counts) (walked .from) (walked .to)) 0 (length (now counts)) (now out) ⌝ }
     ensures { λ _. ⌜ now (out .exit) ≡ splice (now (out .entry)) 0
-        (runs (goalLosses (now (counts .entry)) (now (goals .entry)) (now (tools .entry)) (viewOf (now (base .entry)) (now (tail .entry)) from to)) 0 (length (now (counts .entry)))) ⌝ }
+        (runs (goalLosses (picks .strict) (now (counts .entry)) (now (goals .entry)) (now (tools .entry)) (viewOf (now (base .entry)) (now (tail .entry)) (walked .from) (walked .to))) 0 (length (now (counts .entry)))) ⌝ }
 {
     let mut l: usize = 0;
     let mut c = 0;
     while c < counts.len() {
         let end = l + counts[c] as usize;
-        put_goal(goals, tools, base, tail, from, to, end - 1, c, out);
+        let at = relaxed_ik::goals_to(picks, c);
+        put_goal(goals, tools, base, tail, walked, end - 1, c, picks, at, out);
         l = end;
         c += 1;
     }
@@ -234,6 +262,7 @@ pub fn put_losses(
     counts: &[u16],
     codes: &[u16],
     task: &[f64],
+    picks: Picks,
     x: &[f64],
     base: &[f64],
     tail: &[f64],
@@ -241,24 +270,15 @@ pub fn put_losses(
     out: &mut [f64],
 )
     requires { ⌜ Lent (now counts) (now codes) (now task) (now x) (now base) (now tail) (walked .from) (walked .to) ⌝ }
-    requires { ⌜ Cached (givenOf (now counts) (now codes) (now task)) (viewOf (now base) (now tail) (walked .from) (walked .to))
+    requires { ⌜ Cached (givenOf (now counts) (now codes) (now task) picks) (viewOf (now base) (now tail) (walked .from) (walked .to))
         (now x) (walked .from) (walked .to) (walked .joint) (now out) ⌝ }
     ensures { λ _. ⌜ now (out .exit) ≡ splice (now (out .entry)) 0
-        (lossesOf (givenIn counts codes task) (viewOf (now (base .entry)) (now (tail .entry)) (walked .from) (walked .to)) (now (x .entry))) ⌝ }
+        (lossesOf (givenIn counts codes task picks) (viewOf (now (base .entry)) (now (tail .entry)) (walked .from) (walked .to)) (now (x .entry))) ⌝ }
 {
     let goals = parts::goals(task, counts.len());
     let tools = parts::tools(task, counts.len());
-    put_goals(
-        counts,
-        goals,
-        tools,
-        base,
-        tail,
-        walked.from,
-        walked.to,
-        out,
-    );
-    let n = GOAL_WIDTH * counts.len();
+    put_goals(counts, goals, tools, base, tail, walked, picks, out);
+    let n = relaxed_ik::goals_to(picks, counts.len());
     let limits = parts::limits(task, x.len());
     put_limits(limits, x, walked.joint, n, out);
     let m = n + x.len();

@@ -16,6 +16,7 @@ use Rattle.lists.specs.Splice.{splice, length-splice, getD-splice-in}
 use Rattle.lists.specs.Runs.{runs, runs-ext, length-runs, getD-runs}
 use Rattle.lists.specs.Listed.{listed, listed-turn}
 use Rattle.sheet.specs.Chain.{endIn, total, jointOf, joints-fixed, joints-one, joint-more, below-or, end-past}
+use Rattle.task.specs.declared.picks.Picks.{Picks}
 use Rattle.task.specs.Task.{Given, givenOf}
 use Rattle.spacetime.specs.Floats.{poseAt, flat, pose-is}
 use Rattle.spacetime.specs.Walk.{poseOf, poses, poses-length, framesOf, listPose}
@@ -37,16 +38,16 @@ use Rattle.one_block.specs.Numbers.{numbers-raised}
 
 -- the weighted slope from the losses fs to those of poses P and joints y
 unfoldable pub slopeTo : Given → List Float → (ℕ → Pose) → List Float → Float
-slopeTo g fs P y = let ks : List ℕ = kindsOf (g .counts) (g .codes) in weightedBy (g .weights) ks (listed (slopeBetween fs (lossesOf g P y)) (length ks))
+slopeTo g fs P y = let ks : List ℕ = kindsOf (g .picks) (g .counts) (g .codes) in weightedBy (g .weights) ks (listed (slopeBetween fs (lossesOf g P y)) (length ks))
 
 -- link l's turn in the list of slopes: its joint's entry is set, if it has a joint
 unfoldable pub slopesAfter : Given → List Float → List Float → ℕ → List Float → List Float
 slopesAfter g gs x l slopes = cond (eqb (getD (g .codes) l 0) 0) slopes (set slopes (jointOf (g .codes) l) (gradientAt g gs x (jointOf (g .codes) l)))
 
 -- the objectives' kinds ks, the losses of block x in front of fs, and room for the slopes
-pub record Basis (ns cs : List ℕ) (task gs x : List Float) (ks : List ℕ) (fs slopes : List Float) : Type 0 where
-  pub kinds : ks ≡ kindsOf ns cs
-  pub losses : take (length ks) fs ≡ lossesAt (givenOf ns cs task) gs x
+pub record Basis (ns cs : List ℕ) (task : List Float) (picks : Picks) (gs x : List Float) (ks : List ℕ) (fs slopes : List Float) : Type 0 where
+  pub kinds : ks ≡ kindsOf picks ns cs
+  pub losses : take (length ks) fs ≡ lossesAt (givenOf ns cs task picks) gs x
   pub losses-room : length ks ≤ length fs
   pub slopes-room : length x ≤ length slopes
 
@@ -104,20 +105,20 @@ cached-front g P y from to joint n fs hs cur s e h k made =
     }
 
 -- ---- the slope as code makes it
-pub slope-made : (g : Given) (P : ℕ → Pose) (y fs rest hs ws : List Float) (ks : List ℕ) → ws ≡ g .weights → ks ≡ kindsOf (g .counts) (g .codes) → hs ≡ splice rest 0 (lossesOf g P y)
+pub slope-made : (g : Given) (P : ℕ → Pose) (y fs rest hs ws : List Float) (ks : List ℕ) → ws ≡ g .weights → ks ≡ kindsOf (g .picks) (g .counts) (g .codes) → hs ≡ splice rest 0 (lossesOf g P y)
     → weightedBy ws ks (listed (slopeBetween fs hs) (length ks)) ≡ slopeTo g fs P y
 unfolding slopeTo listed slopeBetween
 slope-made g P y fs rest hs ws ks weights kinds made =
     let ls : List Float = lossesOf g P y in
     let len : length ls ≡ length (objectivesOf g) = losses-many g P y in
-    let n : length ks ≡ length (objectivesOf g) = ap length kinds ∙ kinds-length (g .counts) (g .codes) in
+    let n : length ks ≡ length (objectivesOf g) = ap length kinds ∙ kinds-length (g .picks) (g .counts) (g .codes) in
     ap (weightedBy ws ks)
     (runs-ext (λ i. slopeBetween fs hs i ∷ []) (λ i. slopeBetween fs ls i ∷ []) 0 (length ks)
     (λ i h.
     let z : 0 + i ≡ i = omega arith in
     rw z (ap (λ (v : Float). ((neg (getD fs i nan) ⊕ v) ⊘ step) ∷ []) (ap (λ (c : List Float). getD c i nan) made ∙ front-at rest ls i (omega arith)))))
     ∙ ap (λ (k : List ℕ). weightedBy ws k (listed (slopeBetween fs ls) (length k))) kinds
-    ∙ ap (λ (w : List Float). weightedBy w (kindsOf (g .counts) (g .codes)) (listed (slopeBetween fs ls) (length (kindsOf (g .counts) (g .codes))))) weights
+    ∙ ap (λ (w : List Float). weightedBy w (kindsOf (g .picks) (g .counts) (g .codes)) (listed (slopeBetween fs ls) (length (kindsOf (g .picks) (g .counts) (g .codes))))) weights
 
 -- ---- a turn in the list of slopes
 module _ (g : Given) (gs x : List Float) where
@@ -155,12 +156,12 @@ module _ (g : Given) (gs x : List Float) where
   slopes-all = refl
 
 -- the record at a joint's turn: in front the first walk, from `a` on the links k.. of the copy
-module _ (ns cs : List ℕ) (task gs x : List Float) (ready : Ready ns cs task gs x) (k : ℕ) (inside : k < length cs) (turns : getD cs k 0 ≡ 0 → ⊥)
+module _ (ns cs : List ℕ) (task : List Float) (picks : Picks) (gs x : List Float) (ready : Ready ns cs task gs x) (k : ℕ) (inside : k < length cs) (turns : getD cs k 0 ≡ 0 → ⊥)
     (frames record₀ : List Float) (a : ℕ) (first : take (7 * length cs) frames ≡ framesOf ns cs gs x)
     (again : frames ≡ splice record₀ a (runs (poses ns cs gs (copyOf x (jointOf cs k))) k (endIn ns k - k)))
     (room : a + 7 * (endIn ns k - k) ≤ length record₀) where
   abbrev G : Given
-  G = givenOf ns cs task
+  G = givenOf ns cs task picks
 
   abbrev j : ℕ
   j = jointOf cs k
@@ -211,10 +212,10 @@ module _ (ns cs : List ℕ) (task gs x : List Float) (ready : Ready ns cs task g
       either true = refl
       either false = refl
 
-  module _ (ks : List ℕ) (fs slopes : List Float) (known : Basis ns cs task gs x ks fs slopes) where
+  module _ (ks : List ℕ) (fs slopes : List Float) (known : Basis ns cs task picks gs x ks fs slopes) where
     many : length ks ≡ length (objectivesOf G)
     unfolding givenOf
-    many = ap length (known .kinds) ∙ kinds-length ns cs
+    many = ap length (known .kinds) ∙ kinds-length picks ns cs
 
     -- the first walk's losses stand where the copy touches nothing
     pub cached-copy : Cached G seen y k end j fs
@@ -231,9 +232,9 @@ module _ (ns cs : List ℕ) (task gs x : List Float) (ready : Ready ns cs task g
     pub slope-copy : slopeTo G fs seen y ≡ gradientAt G gs x j
     unfolding slopeTo gradientAt givenOf
     slope-copy =
-        let os : List ℕ = kindsOf ns cs in
+        let os : List ℕ = kindsOf picks ns cs in
         weighted-slopes G gs x os refl (raisedBy step x j) fs (lossesOf G seen y) (ap (λ (n : List ℕ). take (length n) fs) (sym (known .kinds)) ∙ known .losses)
-        (take-all (length os) (lossesOf G seen y) (omega (arith, losses-many G seen y, kinds-length ns cs)) ∙ losses-copy ∙ ap (lossesAt G gs) raised)
+        (take-all (length os) (lossesOf G seen y) (omega (arith, losses-many G seen y, kinds-length picks ns cs)) ∙ losses-copy ∙ ap (lossesAt G gs) raised)
 
     -- the same, of a block, an end and a joint number that are known to be these
     module _ (block : List Float) (to : ℕ) (is : block ≡ y) (ends : to ≡ end) where

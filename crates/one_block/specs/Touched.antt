@@ -1,4 +1,4 @@
--- The goal losses that a raised joint touches: the six of its own chain, and none of another chain.
+-- The goal losses that a raised joint touches: those of its own chain, six with tolerances or two strict ones, and none of another chain.
 use mathlib.Core.Path.{_≡_, _∙_}
 use mathlib.Core.Bool.{Bool, true, false}
 use mathlib.Core.Logic.{inl, inr, ⊎-elim}
@@ -10,7 +10,7 @@ use borrow.Author.Tests.{lt-ltb, le-leb}
 use Rattle.sheet.specs.Chain.{endIn, chainStart, jointOf, below-or, chain-start-next, chain-start-mono, end-of-chain}
 use Rattle.spacetime.specs.Frames.{Chains}
 use Rattle.manipulability.specs.View.{walkedAgain}
-use Rattle.objective_master.specs.Objective.{Objective, MatchEEPosiDoF, MatchEERotaDoF}
+use Rattle.objective_master.specs.Objective.{Objective, MatchEEPosiDoF, MatchEERotaDoF, MatchEEPosGoals, MatchEEQuatGoals}
 use Rattle.objective_master.specs.Cached.{endAgain, touched}
 use Rattle.one_block.specs.Slope.{walked-false}
 
@@ -50,3 +50,12 @@ module _ (ns cs : List ℕ) (chains : Chains ns) (c k : ℕ) (h : c < length ns)
   pub other-goal : (d : ℕ) → d < length ns → (d ≡ c → ⊥) → (a : ℕ) → (again (MatchEEPosiDoF d a) ≡ false) × (again (MatchEERotaDoF d a) ≡ false)
   unfolding touched
   other-goal d g ne a = (other-last d g ne, other-last d g ne)
+
+  -- and so with strict goals
+  pub own-strict-goal : (again (MatchEEPosGoals c) ≡ true) × (again (MatchEEQuatGoals c) ≡ true)
+  unfolding touched
+  own-strict-goal = (own-last, own-last)
+
+  pub other-strict-goal : (d : ℕ) → d < length ns → (d ≡ c → ⊥) → (again (MatchEEPosGoals d) ≡ false) × (again (MatchEEQuatGoals d) ≡ false)
+  unfolding touched
+  other-strict-goal d g ne = (other-last d g ne, other-last d g ne)

@@ -10,6 +10,7 @@ use objective_master::weights;
 use sheet::chain;
 use spacetime::floats;
 use task::parts;
+use task::picks::Picks;
 ghost use mathlib.Core.Path.{_≡_};
 ghost use Prim.Native.Nat.{_+_, _*_, _≤_, _<_};
 ghost use lib.ListN.{length, getD, take, drop};
@@ -75,6 +76,7 @@ fn slope(
     counts: &[u16],
     codes: &[u16],
     task: &[f64],
+    picks: Picks,
     x: &[f64],
     frames: &[f64],
     at: usize,
@@ -82,11 +84,11 @@ fn slope(
     kinds: &[u16],
     f_0s: &[f64],
 ) -> f64
-    requires { ⌜ (now kinds ≡ kindsOf (now counts) (now codes)) × (length (now kinds) ≤ 131) × (length (now kinds) ≤ length (now «f_0s»)) × (7 * at ≤ length (now frames)) ⌝ }
+    requires { ⌜ (now kinds ≡ kindsOf picks (now counts) (now codes)) × (length (now kinds) ≤ 131) × (length (now kinds) ≤ length (now «f_0s»)) × (7 * at ≤ length (now frames)) ⌝ }
     requires { ⌜ Lent (now counts) (now codes) (now task) (now x) (now frames) (drop (7 * at) (now frames)) (walked .from) (walked .to) ⌝ }
-    requires { ⌜ Cached (givenOf (now counts) (now codes) (now task)) (viewOf (now frames) (drop (7 * at) (now frames)) (walked .from) (walked .to))
+    requires { ⌜ Cached (givenOf (now counts) (now codes) (now task) picks) (viewOf (now frames) (drop (7 * at) (now frames)) (walked .from) (walked .to))
         (now x) (walked .from) (walked .to) (walked .joint) (now «f_0s») ⌝ }
-    ensures { λ r. ⌜ r ≡ slopeTo (givenIn counts codes task) (lent «f_0s») (viewOf (lent frames) (drop (7 * at) (lent frames)) (walked .from) (walked .to)) (lent x) ⌝ }
+    ensures { λ r. ⌜ r ≡ slopeTo (givenIn counts codes task picks) (lent «f_0s») (viewOf (lent frames) (drop (7 * at) (lent frames)) (walked .from) (walked .to)) (lent x) ⌝ }
 {
     let mut f_hs = [0.0; 131];
     lists::copy_floats(&f_0s[..kinds.len()], &mut f_hs);
@@ -94,6 +96,7 @@ fn slope(
         counts,
         codes,
         task,
+        picks,
         x,
         frames,
         &frames[7 * at..],
@@ -109,6 +112,7 @@ fn one_joint(
     codes: &[u16],
     floats: &[f64],
     task: &[f64],
+    picks: Picks,
     block: &mut [f64],
     turn: Turn,
     kinds: &[u16],
@@ -121,11 +125,11 @@ fn one_joint(
     requires { ⌜ Ready (now counts) (now codes) (now task) (now floats) (now block) ⌝ }
     requires { ⌜ Room (now joints) (now links) (now frames) (entriesOf (now counts) (now codes)) ⌝ }
     requires { ⌜ AtTurn (now counts) (now codes) (now floats) (now block) turn (now frames) × (getD (now codes) (turn .link) 0 ≡ 0 → ⊥) ⌝ }
-    requires { ⌜ Basis (now counts) (now codes) (now task) (now floats) (now block) (now kinds) (now «f_0s») (now grad) ⌝ }
+    requires { ⌜ Basis (now counts) (now codes) (now task) picks (now floats) (now block) (now kinds) (now «f_0s») (now grad) ⌝ }
     ensures { λ r. ⌜ r ≡ turn .here .at + againAt (lent counts) (lent codes) (turn .link) ⌝ }
     ensures { λ _. ⌜ now (block .exit) ≡ lent block ⌝ }
     ensures { λ _. ⌜ Writes (turn .here .at) (againEntries (lent counts) (lent codes) (lent floats) (lent block) (turn .link)) joints links frames ⌝ }
-    ensures { λ _. ⌜ now (grad .exit) ≡ slopesAfter (givenIn counts codes task) (lent floats) (lent block) (turn .link) (lent grad) ⌝ }
+    ensures { λ _. ⌜ now (grad .exit) ≡ slopesAfter (givenIn counts codes task picks) (lent floats) (lent block) (turn .link) (lent grad) ⌝ }
 {
     let link = turn.link;
     let here = turn.here;
@@ -150,7 +154,18 @@ fn one_joint(
         links,
         frames,
     );
-    grad[joint] = slope(counts, codes, task, block, frames, at, walked, kinds, f_0s);
+    grad[joint] = slope(
+        counts,
+        codes,
+        task,
+        picks,
+        block,
+        frames,
+        at,
+        walked,
+        kinds,
+        f_0s,
+    );
     walk::put_back(block, joint, old);
     next
 }
@@ -161,6 +176,7 @@ fn link_turn(
     codes: &[u16],
     floats: &[f64],
     task: &[f64],
+    picks: Picks,
     block: &mut [f64],
     turn: Turn,
     kinds: &[u16],
@@ -173,11 +189,11 @@ fn link_turn(
     requires { ⌜ Ready (now counts) (now codes) (now task) (now floats) (now block) ⌝ }
     requires { ⌜ Room (now joints) (now links) (now frames) (entriesOf (now counts) (now codes)) ⌝ }
     requires { ⌜ AtTurn (now counts) (now codes) (now floats) (now block) turn (now frames) ⌝ }
-    requires { ⌜ Basis (now counts) (now codes) (now task) (now floats) (now block) (now kinds) (now «f_0s») (now grad) ⌝ }
+    requires { ⌜ Basis (now counts) (now codes) (now task) picks (now floats) (now block) (now kinds) (now «f_0s») (now grad) ⌝ }
     ensures { λ r. ⌜ r ≡ placeAfterTurn (lent counts) (lent codes) (lent floats) (lent block) turn ⌝ }
     ensures { λ _. ⌜ now (block .exit) ≡ lent block ⌝ }
     ensures { λ _. ⌜ Writes (turn .here .at) (againEntries (lent counts) (lent codes) (lent floats) (lent block) (turn .link)) joints links frames ⌝ }
-    ensures { λ _. ⌜ now (grad .exit) ≡ slopesAfter (givenIn counts codes task) (lent floats) (lent block) (turn .link) (lent grad) ⌝ }
+    ensures { λ _. ⌜ now (grad .exit) ≡ slopesAfter (givenIn counts codes task picks) (lent floats) (lent block) (turn .link) (lent grad) ⌝ }
 {
     let link = turn.link;
     let here = turn.here;
@@ -192,6 +208,7 @@ fn link_turn(
         codes,
         floats,
         task,
+        picks,
         block,
         turn,
         kinds,
@@ -214,6 +231,7 @@ fn every_joint(
     codes: &[u16],
     floats: &[f64],
     task: &[f64],
+    picks: Picks,
     block: &mut [f64],
     kinds: &[u16],
     f_0s: &[f64],
@@ -225,9 +243,9 @@ fn every_joint(
     requires { ⌜ Ready (now counts) (now codes) (now task) (now floats) (now block) ⌝ }
     requires { ⌜ Room (now joints) (now links) (now frames) (entriesOf (now counts) (now codes)) ⌝ }
     requires { ⌜ take (7 * length (now codes)) (now frames) ≡ framesOf (now counts) (now codes) (now floats) (now block) ⌝ }
-    requires { ⌜ Basis (now counts) (now codes) (now task) (now floats) (now block) (now kinds) (now «f_0s») (now grad) ⌝ }
+    requires { ⌜ Basis (now counts) (now codes) (now task) picks (now floats) (now block) (now kinds) (now «f_0s») (now grad) ⌝ }
     ensures { λ _. ⌜ now (block .exit) ≡ lent block ⌝ }
-    ensures { λ _. ⌜ now (grad .exit) ≡ splice (lent grad) 0 (gradientOf (givenIn counts codes task) (lent floats) (lent block)) ⌝ }
+    ensures { λ _. ⌜ now (grad .exit) ≡ splice (lent grad) 0 (gradientOf (givenIn counts codes task picks) (lent floats) (lent block)) ⌝ }
     ensures { λ _. ⌜ Writes (length (lent codes)) (everyAgain (lent counts) (lent codes) (lent floats) (lent block)) joints links frames ⌝ }
 {
     let mut p = Place {
@@ -243,6 +261,7 @@ fn every_joint(
             codes,
             floats,
             task,
+            picks,
             block,
             turn,
             kinds,
@@ -262,6 +281,7 @@ pub fn gradient(
     codes: &[u16],
     floats: &[f64],
     task: &[f64],
+    picks: Picks,
     block: &mut [f64],
     grad: &mut [f64],
     joints: &mut [u16],
@@ -270,27 +290,38 @@ pub fn gradient(
 ) -> f64
     requires { ⌜ Ready (now counts) (now codes) (now task) (now floats) (now block) × (length (now block) ≤ length (now grad)) ⌝ }
     requires { ⌜ Room (now joints) (now links) (now frames) (entriesOf (now counts) (now codes)) ⌝ }
-    ensures { λ r. ⌜ r ≡ valueAt (givenIn counts codes task) (lent floats) (lent block) ⌝ }
-    ensures { λ _. ⌜ now (grad .exit) ≡ splice (lent grad) 0 (gradientOf (givenIn counts codes task) (lent floats) (lent block)) ⌝ }
+    ensures { λ r. ⌜ r ≡ valueAt (givenIn counts codes task picks) (lent floats) (lent block) ⌝ }
+    ensures { λ _. ⌜ now (grad .exit) ≡ splice (lent grad) 0 (gradientOf (givenIn counts codes task picks) (lent floats) (lent block)) ⌝ }
     ensures { λ _. ⌜ now (block .exit) ≡ lent block ⌝ }
     ensures { λ _. ⌜ (now (joints .exit) ≡ splice (lent joints) 0 (recordJoints (lent counts) (lent codes))) × (now (links .exit) ≡ splice (lent links) 0 (recordLinks (lent counts) (lent codes))) ⌝ }
     ensures { λ _. ⌜ now (frames .exit) ≡ splice (lent frames) 0 (recordPoses (lent counts) (lent codes) (lent floats) (lent block)) ⌝ }
 {
     let mut f_0s = [0.0; 131];
     let mut list = [0u16; 131];
-    let n = relaxed_ik::relaxed_ik(counts, codes, &mut list);
+    let n = relaxed_ik::relaxed_ik(counts, codes, picks, &mut list);
     first_walk(counts, codes, floats, block, joints, links, frames);
     let all = Walked {
         from: 0,
         to: codes.len(),
         joint: 65535,
     };
-    losses::put_losses(counts, codes, task, block, frames, frames, all, &mut f_0s);
+    losses::put_losses(
+        counts,
+        codes,
+        task,
+        picks,
+        block,
+        frames,
+        frames,
+        all,
+        &mut f_0s,
+    );
     every_joint(
         counts,
         codes,
         floats,
         task,
+        picks,
         block,
         &list[..n],
         &f_0s,

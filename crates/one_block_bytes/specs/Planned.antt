@@ -6,6 +6,7 @@ use mathlib.Core.List.{List}
 use Prim.Native.Nat.{ℕ, zero, suc, _*_, _≤_, _<_}
 use native.Mathlib.Omega.{arith}
 use lib.Ieee.{Float}
+use Rattle.task.specs.declared.picks.Picks.{Picks}
 use Rattle.refusals.specs.Lengths.{slopesLength, valueLength, recordPosesLength}
 use Rattle.refusals.specs.Lowest.{firstOf, first-zero, first-some, first-is, first-most}
 use Rattle.refusals.specs.Refusal.{chainsOf, badWeights, badTools, roomRefusal, weightsRefusal, toolsRefusal}
@@ -20,9 +21,9 @@ use Rattle.objective_bytes.specs.ObjectiveCalls.{TaskLists, taskNumber, optiona
 use Rattle.one_block_bytes.specs.OneBlockCalls.{entriesIn, oneBlockNumber}
 
 -- a plan's entries are those that the call asks
-planned-entries : (s : SheetLists) → planIn s .entries ≡ entriesIn s
+planned-entries : (picks : Picks) (s : SheetLists) → planIn picks s .entries ≡ entriesIn s
 unfolding planOf
-planned-entries s = refl
+planned-entries picks s = refl
 
 optional-not-nine : (s : SheetLists) (t : TaskLists) → optionalNumber s t ≡ 9 → ⊥
 unfolding optionalNumber weightsRefusal toolsRefusal firstOf
@@ -38,7 +39,7 @@ never-nine : (a b : ℕ) → a ≤ 8 → (b ≡ 9 → ⊥) → firstOf a b ≡ 9
 never-nine zero b h k e = k (sym (first-zero 0 b refl) ∙ e)
 never-nine (suc a) b h k e = omega (arith, first-some (suc a) b (λ z. omega arith), e)
 
-module _ (s : SheetLists) (t : TaskLists) (x : List Float) where
+module _ (picks : Picks) (s : SheetLists) (t : TaskLists) (x : List Float) where
   -- the numbers before 9
   task-most : taskNumber s (t .goals) (t .history) x ≤ 8
   unfolding taskNumber
@@ -49,7 +50,7 @@ module _ (s : SheetLists) (t : TaskLists) (x : List Float) where
       (goals-most (chainsOf (s .sizes)) (t .goals)))
 
   -- a record of rj joints, rl links and rp floats of poses, of the planned lengths or longer: none has a part in the number
-  pub one-block-bytes-planned : (value slopes rj rl rp : ℕ) → RecordRoom (planIn s) rj rl rp
+  pub one-block-bytes-planned : (value slopes rj rl rp : ℕ) → RecordRoom (planIn picks s) rj rl rp
       → oneBlockNumber s t x value slopes (numberRoomIn (2 * rj)) (numberRoomIn (2 * rl)) (roomIn (8 * rp))
       ≡ firstOf (taskNumber s (t .goals) (t .history) x) (firstOf (roomRefusal valueLength value) (firstOf (roomRefusal (slopesLength (s .codes)) slopes) (optionalNumber s t)))
   unfolding oneBlockNumber
@@ -57,11 +58,11 @@ module _ (s : SheetLists) (t : TaskLists) (x : List Float) where
       ap (λ (n : ℕ). firstOf (taskNumber s (t .goals) (t .history) x) (firstOf (roomRefusal valueLength value) (firstOf (roomRefusal (slopesLength (s .codes)) slopes) n)))
       (first-zero _ _
       (same-three (recordRefusal (entriesIn s)) (number-room-whole rj) (number-room-whole rl) (room-whole rp)
-      ∙ ap (λ (n : ℕ). recordRefusal n rj rl rp) (sym (planned-entries s))
-      ∙ record-room (planIn s) rj rl rp h))
+      ∙ ap (λ (n : ℕ). recordRefusal n rj rl rp) (sym (planned-entries picks s))
+      ∙ record-room (planIn picks s) rj rl rp h))
 
   -- so with room for the value and the slopes it is never 9
-  pub one-block-bytes-never-nine : (value slopes rj rl rp : ℕ) → valueLength ≤ value → slopesLength (s .codes) ≤ slopes → RecordRoom (planIn s) rj rl rp
+  pub one-block-bytes-never-nine : (value slopes rj rl rp : ℕ) → valueLength ≤ value → slopesLength (s .codes) ≤ slopes → RecordRoom (planIn picks s) rj rl rp
       → oneBlockNumber s t x value slopes (numberRoomIn (2 * rj)) (numberRoomIn (2 * rl)) (roomIn (8 * rp)) ≡ 9 → ⊥
   one-block-bytes-never-nine value slopes rj rl rp v l h nine =
       let known = one-block-bytes-planned value slopes rj rl rp h
@@ -70,12 +71,12 @@ module _ (s : SheetLists) (t : TaskLists) (x : List Float) where
 
   -- with fewer bytes in any of the three it is 9, where no number below 9 applies
   pub one-block-bytes-short : (value slopes j l p : ℕ) → taskNumber s (t .goals) (t .history) x ≡ 0
-      → (j < 2 * planIn s .entries) ⊎ ((l < 2 * planIn s .entries) ⊎ (p < 8 * recordPosesLength (planIn s .entries)))
+      → (j < 2 * planIn picks s .entries) ⊎ ((l < 2 * planIn picks s .entries) ⊎ (p < 8 * recordPosesLength (planIn picks s .entries)))
       → oneBlockNumber s t x value slopes (numberRoomIn j) (numberRoomIn l) (roomIn p) ≡ 9
   unfolding oneBlockNumber
   one-block-bytes-short value slopes j l p q h =
-      let n = planIn s .entries in
-      let short : RecordShort (planIn s) (numberRoomIn j) (numberRoomIn l) (roomIn p) =
+      let n = planIn picks s .entries in
+      let short : RecordShort (planIn picks s) (numberRoomIn j) (numberRoomIn l) (roomIn p) =
       ⊎-elim (λ (a : j < 2 * n). inl (omega (arith, number-room-within j)))
       (λ (more : (l < 2 * n) ⊎ (p < 8 * recordPosesLength n)).
       inr (⊎-elim (λ (b : l < 2 * n). inl (omega (arith, number-room-within l))) (λ (c : p < 8 * recordPosesLength n). inr (omega (arith, room-within p))) more))
@@ -84,4 +85,4 @@ module _ (s : SheetLists) (t : TaskLists) (x : List Float) where
       ∙ room-behind _ value _
       (room-behind _ slopes _
       (first-is _ _ 8
-      (ap (λ (k : ℕ). recordRefusal k (numberRoomIn j) (numberRoomIn l) (roomIn p)) (sym (planned-entries s)) ∙ record-short (planIn s) (numberRoomIn j) (numberRoomIn l) (roomIn p) short)))
+      (ap (λ (k : ℕ). recordRefusal k (numberRoomIn j) (numberRoomIn l) (roomIn p)) (sym (planned-entries picks s)) ∙ record-short (planIn picks s) (numberRoomIn j) (numberRoomIn l) (roomIn p) short)))

@@ -7,6 +7,7 @@ use refusals::lengths;
 use refusals::lent;
 use refusals::shape;
 use task::lay;
+use task::picks::Picks;
 ghost use mathlib.Core.Path.{_≡_};
 ghost use mathlib.Core.List.{[], _∷_};
 ghost use Prim.Native.Nat.{_*_, _≤_};
@@ -83,6 +84,7 @@ fn one_block_on(
     history: &[f64],
     weights: &[f64],
     tools: &[f64; 32],
+    picks: Picks,
     block: &mut [f64],
     slopes: &mut [f64],
     record_joints: &mut [u16],
@@ -92,9 +94,9 @@ fn one_block_on(
     requires { ⌜ Passed (sheetWith (now sizes) (now codes) (now floats) (now limits)) (taskWith (now goals) (now history) (now weights) (now tools)) (now block) ⌝ }
     requires { ⌜ (length (now slopes) ≡ 16) × (length (now «record_joints») ≡ 320) × (length (now «record_links») ≡ 320) ⌝ }
     requires { ⌜ 7 * entriesIn (sheetWith (now sizes) (now codes) (now floats) (now limits)) ≤ length (now «record_poses») ⌝ }
-    ensures { λ r. ⌜ r ≡ valueIn (sheetOf sizes codes floats limits) (taskOf goals history weights tools) (lent block) ⌝ }
+    ensures { λ r. ⌜ r ≡ valueIn (sheetOf sizes codes floats limits) (taskOf goals history weights tools) picks (lent block) ⌝ }
     ensures { λ _. ⌜ now (block .exit) ≡ now (block .entry) ⌝ }
-    ensures { λ _. ⌜ now (slopes .exit) ≡ splice (lent slopes) 0 (gradientSlopes (sheetOf sizes codes floats limits) (taskOf goals history weights tools) (lent block)) ⌝ }
+    ensures { λ _. ⌜ now (slopes .exit) ≡ splice (lent slopes) 0 (gradientSlopes (sheetOf sizes codes floats limits) (taskOf goals history weights tools) picks (lent block)) ⌝ }
     ensures { λ _. ⌜ RecordHeld (sheetOf sizes codes floats limits) (lent block) «record_joints» «record_links» «record_poses» ⌝ }
 {
     let counts = shape::links(sizes);
@@ -113,6 +115,7 @@ fn one_block_on(
         codes,
         floats,
         &task,
+        picks,
         block,
         slopes,
         record_joints,
@@ -164,6 +167,7 @@ fn put_one_block(
     history: &[f64],
     weights: &[f64],
     tools: &[f64; 32],
+    picks: Picks,
     block: &mut [f64],
     poses: &mut [f64],
     value: &mut [u8],
@@ -175,8 +179,8 @@ fn put_one_block(
     requires { ⌜ Fitted (sheetWith (now sizes) (now codes) (now floats) (now limits)) (taskWith (now goals) (now history) (now weights) (now tools)) (now block)
         (length (now value)) (length (now slopes)) (length (now «record_joints»)) (length (now «record_links»)) (length (now «record_poses»)) ⌝ }
     requires { ⌜ 7 * entriesIn (sheetWith (now sizes) (now codes) (now floats) (now limits)) ≤ length (now poses) ⌝ }
-    ensures { λ _. ⌜ now (value .exit) ≡ outputOf 0 value (objectiveValue (sheetOf sizes codes floats limits) (taskOf goals history weights tools) (lent block)) ⌝ }
-    ensures { λ _. ⌜ now (slopes .exit) ≡ outputOf 0 slopes (gradientSlopes (sheetOf sizes codes floats limits) (taskOf goals history weights tools) (lent block)) ⌝ }
+    ensures { λ _. ⌜ now (value .exit) ≡ outputOf 0 value (objectiveValue (sheetOf sizes codes floats limits) (taskOf goals history weights tools) picks (lent block)) ⌝ }
+    ensures { λ _. ⌜ now (slopes .exit) ≡ outputOf 0 slopes (gradientSlopes (sheetOf sizes codes floats limits) (taskOf goals history weights tools) picks (lent block)) ⌝ }
     ensures { λ _. ⌜ RecordWritten 0 (sheetOf sizes codes floats limits) (lent block) «record_joints» «record_links» «record_poses» ⌝ }
 {
     let mut d = [0.0; 16];
@@ -191,6 +195,7 @@ fn put_one_block(
         history,
         weights,
         tools,
+        picks,
         block,
         &mut d,
         &mut rj,
@@ -220,6 +225,7 @@ pub(crate) fn gradient_one_block(
     history: &[f64],
     weights: &[f64],
     tools: &[f64; 32],
+    picks: Picks,
     block: &mut [f64],
     value: &mut [u8],
     slopes: &mut [u8],
@@ -229,8 +235,8 @@ pub(crate) fn gradient_one_block(
 ) -> u16
     ensures number { λ r. ⌜ r ≡ oneBlockNumber (sheetOf sizes codes floats limits) (taskOf goals history weights tools) (lent block)
         (roomOf value) (roomOf slopes) (numberRoomOf «record_joints») (numberRoomOf «record_links») (roomOf «record_poses») ⌝ }
-    ensures value { λ r. ⌜ now (value .exit) ≡ outputOf r value (objectiveValue (sheetOf sizes codes floats limits) (taskOf goals history weights tools) (lent block)) ⌝ }
-    ensures slopes { λ r. ⌜ now (slopes .exit) ≡ outputOf r slopes (gradientSlopes (sheetOf sizes codes floats limits) (taskOf goals history weights tools) (lent block)) ⌝ }
+    ensures value { λ r. ⌜ now (value .exit) ≡ outputOf r value (objectiveValue (sheetOf sizes codes floats limits) (taskOf goals history weights tools) picks (lent block)) ⌝ }
+    ensures slopes { λ r. ⌜ now (slopes .exit) ≡ outputOf r slopes (gradientSlopes (sheetOf sizes codes floats limits) (taskOf goals history weights tools) picks (lent block)) ⌝ }
     ensures record { λ r. ⌜ RecordWritten r (sheetOf sizes codes floats limits) (lent block) «record_joints» «record_links» «record_poses» ⌝ }
 {
     let number = one_block_number(
@@ -263,6 +269,7 @@ pub(crate) fn gradient_one_block(
             history,
             weights,
             tools,
+            picks,
             block,
             &mut few,
             value,
@@ -283,6 +290,7 @@ pub(crate) fn gradient_one_block(
         history,
         weights,
         tools,
+        picks,
         block,
         &mut most,
         value,

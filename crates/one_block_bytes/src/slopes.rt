@@ -1,10 +1,12 @@
 // The gradient on one block, as little-endian bytes. The answer is the refusal's number, 0 where the call is accepted.
 use crate::one_block_lists;
+use lent_bytes::picks;
 use lent_bytes::sheet_lists;
 use lent_bytes::task_lists;
 use lent_bytes::tool_lists;
 use objective_bytes::weights as weights_list;
 ghost use mathlib.Core.Path.{_≡_};
+ghost use Rattle.lent_bytes.specs.Picks.{picksFrom};
 ghost use Rattle.lent_bytes.specs.SheetLists.{sheetIn, blockIn, roomOf, numberRoomOf};
 ghost use Rattle.lent_bytes.specs.ToolLists.{toolsIn};
 ghost use Rattle.arm_bytes.specs.ArmCalls.{outputOf};
@@ -30,11 +32,12 @@ pub fn gradient_one_block(
     record_joints: &mut [u8],
     record_links: &mut [u8],
     record_poses: &mut [u8],
+    strict: u32,
 ) -> u32
     ensures number { λ r. ⌜ r ≡ oneBlockNumber (sheetIn sizes codes floats limits) (taskIn goals history weights (toolsIn tool0 tool1 tool2 tool3)) (blockIn joints)
         (roomOf value) (roomOf slopes) (numberRoomOf «record_joints») (numberRoomOf «record_links») (roomOf «record_poses») ⌝ }
-    ensures value { λ r. ⌜ now (value .exit) ≡ outputOf r value (objectiveValue (sheetIn sizes codes floats limits) (taskIn goals history weights (toolsIn tool0 tool1 tool2 tool3)) (blockIn joints)) ⌝ }
-    ensures slopes { λ r. ⌜ now (slopes .exit) ≡ outputOf r slopes (gradientSlopes (sheetIn sizes codes floats limits) (taskIn goals history weights (toolsIn tool0 tool1 tool2 tool3)) (blockIn joints)) ⌝ }
+    ensures value { λ r. ⌜ now (value .exit) ≡ outputOf r value (objectiveValue (sheetIn sizes codes floats limits) (taskIn goals history weights (toolsIn tool0 tool1 tool2 tool3)) (picksFrom strict) (blockIn joints)) ⌝ }
+    ensures slopes { λ r. ⌜ now (slopes .exit) ≡ outputOf r slopes (gradientSlopes (sheetIn sizes codes floats limits) (taskIn goals history weights (toolsIn tool0 tool1 tool2 tool3)) (picksFrom strict) (blockIn joints)) ⌝ }
     ensures record { λ r. ⌜ RecordWritten r (sheetIn sizes codes floats limits) (blockIn joints) «record_joints» «record_links» «record_poses» ⌝ }
 {
     let mut s = [0u16; 5];
@@ -56,6 +59,7 @@ pub fn gradient_one_block(
     let nx = t.joints;
     let nw = weights_list::decode(weights, &mut w);
     let tools = tool_lists::decode(tool0, tool1, tool2, tool3);
+    let picks = picks::decode(strict);
     one_block_lists::gradient_one_block(
         &s[..ns],
         &c[..nc],
@@ -65,6 +69,7 @@ pub fn gradient_one_block(
         &h[..nh],
         &w[..nw],
         &tools,
+        picks,
         &mut x[..nx],
         value,
         slopes,

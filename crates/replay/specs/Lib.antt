@@ -1,3 +1,4 @@
 pub mod Leaves
+pub mod StrictLeaves
 pub mod Cases
 pub mod Tally

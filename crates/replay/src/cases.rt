@@ -1,5 +1,6 @@
 // A record's call is made, and its answer held against the stored one.
 use crate::leaf_cases;
+use crate::strict_leaves;
 use replay_calls::arm_cases;
 use replay_calls::objective_cases;
 use replay_calls::outputs;
@@ -40,5 +41,8 @@ pub fn agrees(s: &[u8], at: usize) -> bool
     if call == 43 {
         return arm_cases::set_tool(s, at);
     }
-    leaf_cases::leaf(s, at)
+    if call < 44 {
+        return leaf_cases::leaf(s, at);
+    }
+    strict_leaves::leaf(s, at)
 }

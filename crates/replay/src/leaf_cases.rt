@@ -16,7 +16,7 @@ ghost use Rattle.spacetime.specs.Floats.{flatVec, flatQuat};
 ghost use Rattle.replay_calls.specs.Table.{answeredList};
 ghost use Rattle.replay.specs.Leaves.{leafAgrees};
 
-fn floats(s: &[u8], at: usize, xs: &[f64]) -> bool
+pub fn floats(s: &[u8], at: usize, xs: &[f64]) -> bool
     requires { ⌜ (at ≤ 2 ^ 40) × (length (now xs) ≤ 36) ⌝ }
     ensures { λ r. ⌜ r ≡ answerAgrees (now (s .entry)) at 0 answeredList (bytesOf (now (xs .entry)) ∷ []) ⌝ }
 {
@@ -26,14 +26,14 @@ fn floats(s: &[u8], at: usize, xs: &[f64]) -> bool
     agree::one(s, at, 0, table::ANSWERED, &out[..n])
 }
 
-fn quat(s: &[u8], at: usize, q: Quat) -> bool
+pub fn quat(s: &[u8], at: usize, q: Quat) -> bool
     requires { ⌜ at ≤ 2 ^ 40 ⌝ }
     ensures { λ r. ⌜ r ≡ answerAgrees (now (s .entry)) at 0 answeredList (bytesOf (flatQuat q) ∷ []) ⌝ }
 {
     floats(s, at, &[q.w, q.i, q.j, q.k])
 }
 
-fn vec(s: &[u8], at: usize, v: Vec3) -> bool
+pub fn vec(s: &[u8], at: usize, v: Vec3) -> bool
     requires { ⌜ at ≤ 2 ^ 40 ⌝ }
     ensures { λ r. ⌜ r ≡ answerAgrees (now (s .entry)) at 0 answeredList (bytesOf (flatVec v) ∷ []) ⌝ }
 {

@@ -20,7 +20,7 @@ ghost use Rattle.lent_bytes.specs.Bytes.{floatAt};
 ghost use Rattle.lent_bytes.specs.Lent.{floatsIn};
 ghost use Rattle.replay.specs.Leaves.{vecAt, quatAt, grooveLossAt, swampGrooveLossAt, swampLossAt, standinOf, lossOf, measureOf, quatOf, vecOf};
 
-fn vec_at(b: &[u8], i: usize) -> Vec3
+pub fn vec_at(b: &[u8], i: usize) -> Vec3
     requires { ⌜ i ≤ 9 ⌝ }
     ensures { λ r. ⌜ r ≡ vecAt (now (b .entry)) i ⌝ }
 {
@@ -31,7 +31,7 @@ fn vec_at(b: &[u8], i: usize) -> Vec3
     }
 }
 
-fn quat_at(b: &[u8], i: usize) -> Quat
+pub fn quat_at(b: &[u8], i: usize) -> Quat
     requires { ⌜ i ≤ 4 ⌝ }
     ensures { λ r. ⌜ r ≡ quatAt (now (b .entry)) i ⌝ }
 {

@@ -5,12 +5,13 @@ mod leaf_cases;
 mod leaves;
 mod names;
 mod report;
+mod strict_leaves;
 mod tally;
 
 use libc::STDOUT_FILENO;
 
 // The room for the list, in bytes.
-const ROOM: usize = 475136;
+const ROOM: usize = 516096;
 
 fn replay(s: &[u8]) {
     let found = damage::damage(s);

@@ -58,6 +58,19 @@ fn print_shape(call: usize) -> bool {
         40 => return io::write_all(STDOUT_FILENO, b"gram"),
         41 => return io::write_all(STDOUT_FILENO, b"sizing"),
         42 => return io::write_all(STDOUT_FILENO, b"set_weights"),
-        _ => return io::write_all(STDOUT_FILENO, b"set_tool"),
+        43 => return io::write_all(STDOUT_FILENO, b"set_tool"),
+        _ => return print_strict(call),
+    }
+}
+
+fn print_strict(call: usize) -> bool {
+    match call {
+        44 => return io::write_all(STDOUT_FILENO, b"acos"),
+        45 => return io::write_all(STDOUT_FILENO, b"from_quaternion"),
+        46 => return io::write_all(STDOUT_FILENO, b"quaternion_log"),
+        47 => return io::write_all(STDOUT_FILENO, b"quaternion_disp"),
+        48 => return io::write_all(STDOUT_FILENO, b"angle_between_quaternion"),
+        49 => return io::write_all(STDOUT_FILENO, b"loss_pos_goals"),
+        _ => return io::write_all(STDOUT_FILENO, b"loss_quat_goals"),
     }
 }

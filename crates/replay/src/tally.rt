@@ -16,7 +16,7 @@ pub struct Counts {
 // Where the record at `at` ends.
 pub fn record_end(s: &[u8], at: usize) -> usize
     requires { ⌜ at ≤ 2 ^ 40 ⌝ }
-    ensures { λ r. ⌜ (r ≡ endOf (now (s .entry)) at) × (r ≤ at + 1114133) ⌝ }
+    ensures { λ r. ⌜ (r ≡ endOf (now (s .entry)) at) × (r ≤ at + 1179670) ⌝ }
 {
     stored::place(s, at, table::lists(stored::number_at(s, at)))
 }

@@ -6,11 +6,13 @@ use lib.ListN.{length}
 use lib.Ieee.{Float}
 use Rattle.lent_bytes.specs.Lent.{roomIn, numberRoomIn, bytesOf, bytesOfNumbers}
 use Rattle.lent_bytes.specs.SheetLists.{SheetLists, sizesFrom, codesFrom, linkFloatsFrom, sheetFrom, blockFrom, goalsFrom, historyFrom}
+use Rattle.lent_bytes.specs.Picks.{picksFrom}
 use Rattle.lent_bytes.specs.ToolLists.{toolFloatsFrom, toolsFrom}
+use Rattle.task.specs.declared.picks.Picks.{Picks}
 use Rattle.arm_bytes.specs.ArmCalls.{loadNumber, sizingNumber, setGoalsNumber, setToolNumber, framesNumber, poseNumber, updateNumber, resetNumber, manipulabilityNumber}
 use Rattle.arm_bytes.specs.ArmCalls.{planNumbers, framePositions, frameRotations, endPoses, updatedBlocks, resetBlocks, manipulabilityValue}
 use Rattle.stored_answers.specs.Stored.{numberAt, listOf}
-use Rattle.replay_calls.specs.Table.{sizesList, codesList, floatsList, limitsList, goalsList, updateHistory, updateJoints, updateOutput, armToolsList, poseJoints, poseOutputs, armJoints, armOutputs, planOutput, toolList, chainList}
+use Rattle.replay_calls.specs.Table.{sizesList, codesList, floatsList, limitsList, goalsList, updateHistory, updateJoints, updateOutput, armToolsList, poseJoints, poseOutputs, armJoints, armOutputs, planPick, planOutput, toolList, chainList}
 use Rattle.stored_answers.specs.Agree.{written, answerAgrees}
 
 -- what the record at a place lends the call
@@ -36,15 +38,22 @@ roomAt s at k = roomIn (length (listOf s at k))
 abbrev pub numberRoomAt : List ℕ → ℕ → ℕ → ℕ
 numberRoomAt s at k = numberRoomIn (length (listOf s at k))
 
+-- the u16 that list k is, 0 where it has no byte; as a pick
+abbrev pub listNumber : List ℕ → ℕ → ℕ → ℕ
+listNumber s at k = numberAt (listOf s at k) 0
+
+abbrev pub picksAt : List ℕ → ℕ → ℕ → Picks
+picksAt s at k = picksFrom (listNumber s at k)
+
 unfoldable pub loadAgrees : List ℕ → ℕ → Bool
 loadAgrees s at = answerAgrees s at (loadNumber (sheetAt s at)) 0 []
 
 unfoldable pub setGoalsAgrees : List ℕ → ℕ → Bool
 setGoalsAgrees s at = answerAgrees s at (setGoalsNumber (sheetAt s at) (goalsAt s at goalsList)) 0 []
 
--- a tool, and a list of two bytes, the chain's number; no output
+-- a tool, and the chain's number; no output
 unfoldable pub setToolAgrees : List ℕ → ℕ → Bool
-setToolAgrees s at = answerAgrees s at (setToolNumber (sheetAt s at) (toolFloatsFrom (listOf s at toolList)) (numberAt (listOf s at chainList) 0)) 0 []
+setToolAgrees s at = answerAgrees s at (setToolNumber (sheetAt s at) (toolFloatsFrom (listOf s at toolList)) (listNumber s at chainList)) 0 []
 
 -- Of each call its number, and the outputs after it. Joints; positions, rotations:
 abbrev framesAt : List ℕ → ℕ → ℕ
@@ -95,7 +104,7 @@ updateAgrees s at =
     answerAgrees s at (updateAt s at) updateOutput
     (written (updateAt s at) (listOf s at updateOutput) (bytesOf (updatedBlocks (historyAt s at updateHistory) (blockAt s at updateJoints))) ∷ [])
 
--- no limits; the plan
+-- no limits; a pick; the plan
 abbrev sizingAt : List ℕ → ℕ → ℕ
 sizingAt s at =
     sizingNumber (sizesFrom (listOf s at sizesList)) (codesFrom (listOf s at codesList)) (linkFloatsFrom (listOf s at floatsList)) (numberRoomAt s at planOutput)
@@ -103,4 +112,4 @@ sizingAt s at =
 unfoldable pub sizingAgrees : List ℕ → ℕ → Bool
 sizingAgrees s at =
     answerAgrees s at (sizingAt s at) planOutput
-    (written (sizingAt s at) (listOf s at planOutput) (bytesOfNumbers (planNumbers (sizesFrom (listOf s at sizesList)) (codesFrom (listOf s at codesList)))) ∷ [])
+    (written (sizingAt s at) (listOf s at planOutput) (bytesOfNumbers (planNumbers (picksAt s at planPick) (sizesFrom (listOf s at sizesList)) (codesFrom (listOf s at codesList)))) ∷ [])

@@ -1,4 +1,4 @@
--- The same for the byte calls on the objective: goals, history, weights, tools and joints; the outputs last.
+-- The same for the byte calls on the objective: goals, history, weights, tools, joints and a pick; the outputs last.
 use mathlib.Core.Bool.{Bool}
 use mathlib.Core.List.{List, [], _∷_}
 use Prim.Native.Nat.{ℕ, _+_}
@@ -8,8 +8,8 @@ use Rattle.objective_bytes.specs.ObjectiveCalls.{TaskLists, weightsFrom, taskFr
 use Rattle.one_block_bytes.specs.OneBlockCalls.{oneBlockNumber, recordJointsIn, recordLinksIn, recordPosesIn}
 use Rattle.stored_answers.specs.Stored.{listOf}
 use Rattle.stored_answers.specs.Agree.{written, answerAgrees}
-use Rattle.replay_calls.specs.Table.{goalsList, historyList, weightsList, toolsList, jointsList, objectiveOutputs, setWeightsList}
-use Rattle.replay_calls.specs.Arms.{sheetAt, blockAt, toolsAt, roomAt, numberRoomAt}
+use Rattle.replay_calls.specs.Table.{goalsList, historyList, weightsList, toolsList, jointsList, pickList, objectiveOutputs, setWeightsList}
+use Rattle.replay_calls.specs.Arms.{sheetAt, blockAt, toolsAt, picksAt, roomAt, numberRoomAt}
 
 -- the weights alone; no output
 unfoldable pub setWeightsAgrees : List ℕ → ℕ → Bool
@@ -20,7 +20,7 @@ abbrev pub taskAt : List ℕ → ℕ → TaskLists
 taskAt s at = taskFrom (listOf s at goalsList) (listOf s at historyList) (listOf s at weightsList) (toolsAt s at toolsList)
 
 abbrev pub valueAt : List ℕ → ℕ → List Float
-valueAt s at = objectiveValue (sheetAt s at) (taskAt s at) (blockAt s at jointsList)
+valueAt s at = objectiveValue (sheetAt s at) (taskAt s at) (picksAt s at pickList) (blockAt s at jointsList)
 
 -- one float
 abbrev objectiveAt : List ℕ → ℕ → ℕ
@@ -39,7 +39,7 @@ gradientAgrees s at =
     answerAgrees s at (slopesAt s at) objectiveOutputs
     (written (slopesAt s at) (listOf s at objectiveOutputs) (bytesOf (blockAt s at jointsList))
     ∷ written (slopesAt s at) (listOf s at (objectiveOutputs + 1)) (bytesOf (valueAt s at))
-    ∷ written (slopesAt s at) (listOf s at (objectiveOutputs + 2)) (bytesOf (gradientSlopes (sheetAt s at) (taskAt s at) (blockAt s at jointsList)))
+    ∷ written (slopesAt s at) (listOf s at (objectiveOutputs + 2)) (bytesOf (gradientSlopes (sheetAt s at) (taskAt s at) (picksAt s at pickList) (blockAt s at jointsList)))
     ∷ [])
 
 unfoldable pub finiteDiffAgrees : List ℕ → ℕ → Bool
@@ -47,7 +47,7 @@ finiteDiffAgrees s at =
     answerAgrees s at (slopesAt s at) objectiveOutputs
     (written (slopesAt s at) (listOf s at objectiveOutputs) (bytesOf (blockAt s at jointsList))
     ∷ written (slopesAt s at) (listOf s at (objectiveOutputs + 1)) (bytesOf (valueAt s at))
-    ∷ written (slopesAt s at) (listOf s at (objectiveOutputs + 2)) (bytesOf (finiteDiffSlopes (sheetAt s at) (taskAt s at) (blockAt s at jointsList)))
+    ∷ written (slopesAt s at) (listOf s at (objectiveOutputs + 2)) (bytesOf (finiteDiffSlopes (sheetAt s at) (taskAt s at) (picksAt s at pickList) (blockAt s at jointsList)))
     ∷ [])
 
 -- one float, slopes, and the record: joints, links, poses
@@ -60,7 +60,7 @@ unfoldable pub oneBlockAgrees : List ℕ → ℕ → Bool
 oneBlockAgrees s at =
     answerAgrees s at (oneBlockAt s at) objectiveOutputs
     (written (oneBlockAt s at) (listOf s at objectiveOutputs) (bytesOf (valueAt s at))
-    ∷ written (oneBlockAt s at) (listOf s at (objectiveOutputs + 1)) (bytesOf (gradientSlopes (sheetAt s at) (taskAt s at) (blockAt s at jointsList)))
+    ∷ written (oneBlockAt s at) (listOf s at (objectiveOutputs + 1)) (bytesOf (gradientSlopes (sheetAt s at) (taskAt s at) (picksAt s at pickList) (blockAt s at jointsList)))
     ∷ written (oneBlockAt s at) (listOf s at (objectiveOutputs + 2)) (bytesOfNumbers (recordJointsIn (sheetAt s at)))
     ∷ written (oneBlockAt s at) (listOf s at (objectiveOutputs + 3)) (bytesOfNumbers (recordLinksIn (sheetAt s at)))
     ∷ written (oneBlockAt s at) (listOf s at (objectiveOutputs + 4)) (bytesOf (recordPosesIn (sheetAt s at) (blockAt s at jointsList)))

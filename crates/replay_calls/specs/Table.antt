@@ -1,11 +1,12 @@
--- Which list of a record is which: the one table of list numbers. A byte call's lists are those of its parameters, in their order: the outputs come last.
+-- Which list of a record is which: the one table of list numbers. A byte call's lists are those of its parameters, in their
+-- order, but for a pick: that comes before the outputs, which are last.
 use mathlib.Core.Bool.{cond}
 use Prim.Native.Nat.{ℕ, _+_}
 use lib.Dec.{eqb, ltb}
 
 -- the calls are 0 to the last one
 abbrev pub lastCall : ℕ
-lastCall = 43
+lastCall = 50
 
 abbrev pub calls : ℕ
 calls = lastCall + 1
@@ -41,8 +42,11 @@ toolsList = weightsList + 1
 abbrev pub jointsList : ℕ
 jointsList = toolsList + 4
 
+abbrev pub pickList : ℕ
+pickList = jointsList + 1
+
 abbrev pub objectiveOutputs : ℕ
-objectiveOutputs = jointsList + 1
+objectiveOutputs = pickList + 1
 
 -- update
 abbrev pub updateHistory : ℕ
@@ -72,8 +76,11 @@ abbrev pub armOutputs : ℕ
 armOutputs = armJoints + 1
 
 -- sizing
+abbrev pub planPick : ℕ
+planPick = floatsList + 1
+
 abbrev pub planOutput : ℕ
-planOutput = floatsList + 1
+planOutput = planPick + 1
 
 -- set_weights
 abbrev pub setWeightsList : ℕ
@@ -100,9 +107,9 @@ outputsFrom c =
     (cond (eqb c 6) armOutputs (cond (eqb c 7) poseOutputs (cond (eqb c 8) objectiveOutputs (cond (eqb c 9) objectiveOutputs (cond (eqb c 10) objectiveOutputs
     (cond (eqb c 41) planOutput (cond (eqb c 42) (setWeightsList + 1) (cond (eqb c 43) (chainList + 1) answeredList)))))))))))))
 
--- and how many it has
+-- and how many it has: a leaf one, 42 and 43 none
 unfoldable pub outputsOf : ℕ → ℕ
-outputsOf c = cond (ltb c 2) 0 (cond (ltb c 6) 1 (cond (ltb c 8) 2 (cond (ltb c 10) 3 (cond (eqb c 10) 5 (cond (ltb c 42) 1 0)))))
+outputsOf c = cond (ltb c 2) 0 (cond (ltb c 6) 1 (cond (ltb c 8) 2 (cond (ltb c 10) 3 (cond (eqb c 10) 5 (cond (ltb c 42) 1 (cond (ltb c 44) 0 1))))))
 
 -- how many lists a record of call c has
 unfoldable pub listsOf : ℕ → ℕ

@@ -1,10 +1,10 @@
 // The byte calls on an arm sheet: each is asked what a record stores, and its answer is held against the stored one.
+use crate::numbers;
 use crate::table;
 use arm_bytes::arms;
 use stored_answers::agree;
 use stored_answers::agree::none;
 use stored_answers::stored::list;
-use stored_answers::stored::number_at;
 ghost use mathlib.Core.Path.{_≡_};
 ghost use Prim.Native.Nat.{_+_, _≤_, _^_};
 ghost use Rattle.stored_answers.specs.Stored.{listOf};
@@ -43,14 +43,14 @@ pub fn set_tool(s: &[u8], at: usize) -> bool
     requires { ⌜ at ≤ 2 ^ 40 ⌝ }
     ensures { λ r. ⌜ r ≡ setToolAgrees (now (s .entry)) at ⌝ }
 {
-    let chain = number_at(list(s, at, table::CHAIN), 0);
+    let chain = numbers::list_number(s, at, table::CHAIN);
     let number = arms::set_tool(
         list(s, at, table::SIZES),
         list(s, at, table::CODES),
         list(s, at, table::FLOATS),
         list(s, at, table::LIMITS),
         list(s, at, table::TOOL),
-        chain as u32,
+        chain,
     );
     none(s, at, number)
 }
@@ -151,11 +151,13 @@ pub fn sizing(s: &[u8], at: usize, plan: &mut [u8]) -> bool
     requires { ⌜ now plan ≡ filled (listOf (now s) at planOutput) ⌝ }
     ensures { λ r. ⌜ r ≡ sizingAgrees (now (s .entry)) at ⌝ }
 {
+    let strict = numbers::list_number(s, at, table::PLAN_PICK);
     let number = arms::sizing(
         list(s, at, table::SIZES),
         list(s, at, table::CODES),
         list(s, at, table::FLOATS),
         plan,
+        strict,
     );
     agree::one(s, at, number, table::PLAN_OUTPUT, plan)
 }

@@ -1,4 +1,5 @@
 // The byte calls on the objective, as those on an arm sheet.
+use crate::numbers;
 use crate::table;
 use objective_bytes::objectives;
 use stored_answers::agree;
@@ -24,6 +25,7 @@ pub fn objective(s: &[u8], at: usize, value: &mut [u8]) -> bool
     requires { ⌜ now value ≡ filled (listOf (now s) at objectiveOutputs) ⌝ }
     ensures { λ r. ⌜ r ≡ objectiveAgrees (now (s .entry)) at ⌝ }
 {
+    let strict = numbers::list_number(s, at, table::PICK);
     let number = objectives::objective(
         list(s, at, table::SIZES),
         list(s, at, table::CODES),
@@ -38,6 +40,7 @@ pub fn objective(s: &[u8], at: usize, value: &mut [u8]) -> bool
         list(s, at, table::TOOL3),
         list(s, at, table::JOINTS),
         value,
+        strict,
     );
     agree::one(s, at, number, table::OBJECTIVE_OUTPUTS, value)
 }
@@ -55,6 +58,7 @@ pub fn gradient(
         × (now slopes ≡ filled (listOf (now s) at (objectiveOutputs + 2))) ⌝ }
     ensures { λ r. ⌜ r ≡ gradientAgrees (now (s .entry)) at ⌝ }
 {
+    let strict = numbers::list_number(s, at, table::PICK);
     let number = objectives::gradient(
         list(s, at, table::SIZES),
         list(s, at, table::CODES),
@@ -71,6 +75,7 @@ pub fn gradient(
         scratch,
         value,
         slopes,
+        strict,
     );
     agree::three(
         s,
@@ -96,6 +101,7 @@ pub fn gradient_finite_diff(
         × (now slopes ≡ filled (listOf (now s) at (objectiveOutputs + 2))) ⌝ }
     ensures { λ r. ⌜ r ≡ finiteDiffAgrees (now (s .entry)) at ⌝ }
 {
+    let strict = numbers::list_number(s, at, table::PICK);
     let number = objectives::gradient_finite_diff(
         list(s, at, table::SIZES),
         list(s, at, table::CODES),
@@ -112,6 +118,7 @@ pub fn gradient_finite_diff(
         scratch,
         value,
         slopes,
+        strict,
     );
     agree::three(
         s,
@@ -141,6 +148,7 @@ pub fn gradient_one_block(
         × (now «record_poses» ≡ filled (listOf (now s) at (objectiveOutputs + 4))) ⌝ }
     ensures { λ r. ⌜ r ≡ oneBlockAgrees (now (s .entry)) at ⌝ }
 {
+    let strict = numbers::list_number(s, at, table::PICK);
     let number = one_block_bytes::slopes::gradient_one_block(
         list(s, at, table::SIZES),
         list(s, at, table::CODES),
@@ -159,6 +167,7 @@ pub fn gradient_one_block(
         record_joints,
         record_links,
         record_poses,
+        strict,
     );
     agree::five(
         s,

@@ -14,7 +14,7 @@ ghost use Rattle.replay_calls.specs.Outputs.{oneAgrees, twoAgree, threeA
 
 // How long list k of the record is.
 fn room(s: &[u8], at: usize, k: usize) -> usize
-    requires { ⌜ (at ≤ 2 ^ 40) × (k ≤ 16) ⌝ }
+    requires { ⌜ (at ≤ 2 ^ 40) × (k ≤ 17) ⌝ }
     ensures { λ r. ⌜ (r ≡ length (listOf (now (s .entry)) at k)) × (r < 65536) ⌝ }
 {
     let stored = stored::list(s, at, k);

@@ -4,7 +4,7 @@ ghost use Prim.Native.Nat.{_≤_};
 ghost use Rattle.replay_calls.specs.Table.{outputsFrom, outputsOf, listsOf};
 
 // the calls are 0 to the last one
-pub const LAST: usize = 43;
+pub const LAST: usize = 50;
 
 pub const CALLS: usize = LAST + 1;
 // every byte call but set_weights: the sheet, sizing without its limits
@@ -36,7 +36,9 @@ pub const TOOL3: usize = TOOL0 + 3;
 
 pub const JOINTS: usize = TOOL0 + 4;
 
-pub const OBJECTIVE_OUTPUTS: usize = JOINTS + 1;
+pub const PICK: usize = JOINTS + 1;
+
+pub const OBJECTIVE_OUTPUTS: usize = PICK + 1;
 
 pub const OBJECTIVE_SECOND: usize = OBJECTIVE_OUTPUTS + 1;
 
@@ -68,7 +70,9 @@ pub const ARM_JOINTS: usize = LIMITS + 1;
 
 pub const ARM_OUTPUTS: usize = ARM_JOINTS + 1;
 // sizing
-pub const PLAN_OUTPUT: usize = FLOATS + 1;
+pub const PLAN_PICK: usize = FLOATS + 1;
+
+pub const PLAN_OUTPUT: usize = PLAN_PICK + 1;
 // set_weights
 pub const SET_WEIGHTS: usize = 0;
 
@@ -86,7 +90,7 @@ pub const ANSWERED: usize = ASKED + 1;
 
 // The first output of a call.
 pub fn outputs_from(call: usize) -> usize
-    ensures { λ r. ⌜ (r ≡ outputsFrom call) × (r ≤ 12) ⌝ }
+    ensures { λ r. ⌜ (r ≡ outputsFrom call) × (r ≤ 13) ⌝ }
 {
     match call {
         0 => return LOAD_END,
@@ -126,12 +130,15 @@ fn outputs(call: usize) -> usize
     if call == 10 {
         return 5;
     }
-    if call < 42 { 1 } else { 0 }
+    if call < 42 {
+        return 1;
+    }
+    if call < 44 { 0 } else { 1 }
 }
 
 // How many lists a record of the call has.
 pub fn lists(call: usize) -> usize
-    ensures { λ r. ⌜ (r ≡ listsOf call) × (r ≤ 17) ⌝ }
+    ensures { λ r. ⌜ (r ≡ listsOf call) × (r ≤ 18) ⌝ }
 {
     outputs_from(call) + outputs(call)
 }

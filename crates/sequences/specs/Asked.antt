@@ -15,8 +15,8 @@ use Rattle.state_calls.specs.Objective.{objectiveNumberOf, objectiveValueOf, gr
 use Rattle.state_calls.specs.OneBlock.{oneBlockNumberOf, recordJointsOf, recordLinksOf, recordPosesOf}
 use Rattle.stored_answers.specs.Stored.{numberAt, listOf}
 use Rattle.stored_answers.specs.Agree.{answerAgrees}
-use Rattle.sequences.specs.Table.{outputs, keptLists}
-use Rattle.sequences.specs.Lists.{jointsAt, filledFloats, filledNumbers, leftFloats, leftNumbers}
+use Rattle.sequences.specs.Table.{outputs, objectiveOutputs, keptLists}
+use Rattle.sequences.specs.Lists.{jointsAt, strictAt, filledFloats, filledNumbers, leftFloats, leftNumbers}
 use Rattle.sequences.specs.Changes.{outcomeAt}
 
 -- how long a record's output k is before its call
@@ -63,18 +63,18 @@ objectiveAt st s at = objectiveNumberOf st (jointsAt s at)
 
 unfoldable pub objectiveAgrees : State → List ℕ → ℕ → Bool
 objectiveAgrees st s at =
-    answerAgrees s at (objectiveAt st s at) outputs (valueBytes (objectiveAt st s at) (objectiveValueOf st (jointsAt s at)) ∷ [])
+    answerAgrees s at (objectiveAt st s at) objectiveOutputs (valueBytes (objectiveAt st s at) (objectiveValueOf st (strictAt s at) (jointsAt s at)) ∷ [])
 
 -- a value, scratch, slopes: f says which
 abbrev gradientAt : State → List ℕ → ℕ → ℕ
-gradientAt st s at = gradientNumberOf st (jointsAt s at) (roomAt s at (outputs + 1)) (roomAt s at (outputs + 2))
+gradientAt st s at = gradientNumberOf st (jointsAt s at) (roomAt s at (objectiveOutputs + 1)) (roomAt s at (objectiveOutputs + 2))
 
-abbrev slopesAgree : (State → List Float → List Float) → State → List ℕ → ℕ → Bool
+abbrev slopesAgree : (State → Bool → List Float → List Float) → State → List ℕ → ℕ → Bool
 slopesAgree f st s at =
-    answerAgrees s at (gradientAt st s at) outputs
-    (valueBytes (gradientAt st s at) (objectiveValueOf st (jointsAt s at))
-    ∷ bytesOf (leftFloats (gradientAt st s at) (listOf s at (outputs + 1)) (jointsAt s at))
-    ∷ bytesOf (leftFloats (gradientAt st s at) (listOf s at (outputs + 2)) (f st (jointsAt s at)))
+    answerAgrees s at (gradientAt st s at) objectiveOutputs
+    (valueBytes (gradientAt st s at) (objectiveValueOf st (strictAt s at) (jointsAt s at))
+    ∷ bytesOf (leftFloats (gradientAt st s at) (listOf s at (objectiveOutputs + 1)) (jointsAt s at))
+    ∷ bytesOf (leftFloats (gradientAt st s at) (listOf s at (objectiveOutputs + 2)) (f st (strictAt s at) (jointsAt s at)))
     ∷ [])
 
 unfoldable pub gradientAgrees : State → List ℕ → ℕ → Bool
@@ -86,17 +86,17 @@ finiteDiffAgrees st s at = slopesAgree finiteDiffSlopesOf st s at
 -- a value, the block as it came, slopes, and the record: joints, links, poses
 abbrev oneBlockAt : State → List ℕ → ℕ → ℕ
 oneBlockAt st s at =
-    oneBlockNumberOf st (jointsAt s at) (roomAt s at (outputs + 2)) (numberRoomAt s at (outputs + 3)) (numberRoomAt s at (outputs + 4)) (roomAt s at (outputs + 5))
+    oneBlockNumberOf st (jointsAt s at) (roomAt s at (objectiveOutputs + 2)) (numberRoomAt s at (objectiveOutputs + 3)) (numberRoomAt s at (objectiveOutputs + 4)) (roomAt s at (objectiveOutputs + 5))
 
 unfoldable pub oneBlockAgrees : State → List ℕ → ℕ → Bool
 oneBlockAgrees st s at =
-    answerAgrees s at (oneBlockAt st s at) outputs
-    (valueBytes (oneBlockAt st s at) (objectiveValueOf st (jointsAt s at))
+    answerAgrees s at (oneBlockAt st s at) objectiveOutputs
+    (valueBytes (oneBlockAt st s at) (objectiveValueOf st (strictAt s at) (jointsAt s at))
     ∷ bytesOf (jointsAt s at)
-    ∷ bytesOf (leftFloats (oneBlockAt st s at) (listOf s at (outputs + 2)) (gradientSlopesOf st (jointsAt s at)))
-    ∷ bytesOfNumbers (leftNumbers (oneBlockAt st s at) (listOf s at (outputs + 3)) (recordJointsOf st))
-    ∷ bytesOfNumbers (leftNumbers (oneBlockAt st s at) (listOf s at (outputs + 4)) (recordLinksOf st))
-    ∷ bytesOf (leftFloats (oneBlockAt st s at) (listOf s at (outputs + 5)) (recordPosesOf st (jointsAt s at)))
+    ∷ bytesOf (leftFloats (oneBlockAt st s at) (listOf s at (objectiveOutputs + 2)) (gradientSlopesOf st (strictAt s at) (jointsAt s at)))
+    ∷ bytesOfNumbers (leftNumbers (oneBlockAt st s at) (listOf s at (objectiveOutputs + 3)) (recordJointsOf st))
+    ∷ bytesOfNumbers (leftNumbers (oneBlockAt st s at) (listOf s at (objectiveOutputs + 4)) (recordLinksOf st))
+    ∷ bytesOf (leftFloats (oneBlockAt st s at) (listOf s at (objectiveOutputs + 5)) (recordPosesOf st (jointsAt s at)))
     ∷ [])
 
 -- what the state keeps: goals, the four blocks of the history, the end poses at the last reset, zeros behind each

@@ -39,12 +39,19 @@ toolList = 0
 abbrev pub chainList : ℕ
 chainList = toolList + 1
 
--- every other call but `kept` has a joint block, and its outputs from here on
+-- every other call but `kept` has a joint block; frames, pose and manipulability have their outputs from here on
 abbrev pub jointsList : ℕ
 jointsList = 0
 
 abbrev pub outputs : ℕ
 outputs = jointsList + 1
+
+-- the objective and its gradients have the pick before them
+abbrev pub pickList : ℕ
+pickList = jointsList + 1
+
+abbrev pub objectiveOutputs : ℕ
+objectiveOutputs = pickList + 1
 
 -- what the state keeps of its party, from here on
 abbrev pub keptLists : ℕ
@@ -55,4 +62,4 @@ keptLists = 0
 unfoldable pub listsOf : ℕ → ℕ
 listsOf c =
     cond (eqb c 0) 0 (cond (eqb c 1) 4 (cond (eqb c 2) 1 (cond (eqb c 3) 1 (cond (eqb c 4) 1 (cond (eqb c 5) 3
-    (cond (eqb c 6) 2 (cond (eqb c 7) 2 (cond (eqb c 8) 2 (cond (eqb c 9) 4 (cond (eqb c 10) 4 (cond (eqb c 11) 7 (cond (eqb c 12) 6 (cond (eqb c 13) 1 2)))))))))))))
+    (cond (eqb c 6) 2 (cond (eqb c 7) 2 (cond (eqb c 8) 3 (cond (eqb c 9) 5 (cond (eqb c 10) 5 (cond (eqb c 11) 8 (cond (eqb c 12) 6 (cond (eqb c 13) 1 2)))))))))))))

@@ -1,5 +1,4 @@
 // Whether an answer agrees with the stored one: the number, then output after output as bytes.
-use crate::table;
 use calls::answer;
 use calls::answer::Answer;
 use lent_bytes::lent;
@@ -14,7 +13,6 @@ ghost use Rattle.calls.specs.Answer.{numberOf, answerValue};
 ghost use Rattle.lent_bytes.specs.Lent.{bytesOf, bytesOfNumbers};
 ghost use Rattle.stored_answers.specs.Stored.{listOf};
 ghost use Rattle.stored_answers.specs.Agree.{sameBytes, answerAgrees};
-ghost use Rattle.sequences.specs.Table.{outputs};
 
 pub fn number(s: &[u8], at: usize, number: u16) -> bool
     requires { ⌜ at ≤ 2 ^ 40 ⌝ }
@@ -79,11 +77,11 @@ fn number_of(answer: Answer) -> u16
     }
 }
 
-// A number and a value; the value is the first output.
-pub fn answered(s: &[u8], at: usize, given: Answer) -> bool
-    requires { ⌜ at ≤ 2 ^ 40 ⌝ }
-    ensures { λ r. ⌜ r ≡ answerAgrees (now (s .entry)) at (numberOf given) outputs (bytesOf (answerValue given ∷ []) ∷ []) ⌝ }
+// A number, and a value that is stored as list k.
+pub fn answered(s: &[u8], at: usize, k: usize, given: Answer) -> bool
+    requires { ⌜ (at ≤ 2 ^ 40) × (k ≤ 12) ⌝ }
+    ensures { λ r. ⌜ r ≡ answerAgrees (now (s .entry)) at (numberOf given) k (bytesOf (answerValue given ∷ []) ∷ []) ⌝ }
 {
     let a = number(s, at, number_of(given));
-    floats(a, s, at, table::OUTPUTS, &[answer::value(given)])
+    floats(a, s, at, k, &[answer::value(given)])
 }

@@ -5,11 +5,12 @@ use state_calls::arms;
 use state_calls::objective;
 use state_calls::one_block_slopes;
 use state_calls::state::State;
+use stored_answers::stored;
 ghost use mathlib.Core.Path.{_≡_};
 ghost use Prim.Native.Nat.{_+_, _≤_, _^_};
 ghost use Rattle.stored_answers.specs.Stored.{listOf};
-ghost use Rattle.sequences.specs.Table.{outputs};
-ghost use Rattle.sequences.specs.Lists.{jointsAt, filledFloats, filledNumbers};
+ghost use Rattle.sequences.specs.Table.{outputs, objectiveOutputs};
+ghost use Rattle.sequences.specs.Lists.{jointsAt, strictAt, filledFloats, filledNumbers};
 ghost use Rattle.sequences.specs.Asked.{framesAgree, poseAgrees, manipulabilityAgrees, objectiveAgrees, gradientAgrees, finiteDiffAgrees, oneBlockAgrees, keptAgrees};
 
 pub fn frames(
@@ -27,7 +28,7 @@ pub fn frames(
     let number = arms::frames(state, joints, positions, rotations);
     let a = agree::number(s, at, number);
     let b = agree::floats(a, s, at, table::OUTPUTS, positions);
-    agree::floats(b, s, at, table::SECOND, rotations)
+    agree::floats(b, s, at, table::ROTATIONS, rotations)
 }
 
 pub fn pose(state: State, s: &[u8], at: usize, joints: &[f64], ends: &mut [f64]) -> bool
@@ -44,14 +45,28 @@ pub fn manipulability(state: State, s: &[u8], at: usize, joints: &[f64]) -> bool
     requires { ⌜ (at ≤ 2 ^ 40) × (now joints ≡ jointsAt (now s) at) ⌝ }
     ensures { λ r. ⌜ r ≡ manipulabilityAgrees state (now (s .entry)) at ⌝ }
 {
-    agree::answered(s, at, arms::manipulability(state, joints))
+    agree::answered(s, at, table::OUTPUTS, arms::manipulability(state, joints))
+}
+
+// Whether the record picks the strict list.
+fn strict(s: &[u8], at: usize) -> bool
+    requires { ⌜ at ≤ 2 ^ 40 ⌝ }
+    ensures { λ r. ⌜ r ≡ strictAt (now (s .entry)) at ⌝ }
+{
+    stored::number_at(stored::list(s, at, table::PICK), 0) != 0
 }
 
 pub fn objective(state: State, s: &[u8], at: usize, joints: &[f64]) -> bool
     requires { ⌜ (at ≤ 2 ^ 40) × (now joints ≡ jointsAt (now s) at) ⌝ }
     ensures { λ r. ⌜ r ≡ objectiveAgrees state (now (s .entry)) at ⌝ }
 {
-    agree::answered(s, at, objective::objective(state, joints))
+    let strict = strict(s, at);
+    agree::answered(
+        s,
+        at,
+        table::VALUE,
+        objective::objective(state, strict, joints),
+    )
 }
 
 pub fn gradient(
@@ -63,13 +78,14 @@ pub fn gradient(
     slopes: &mut [f64],
 ) -> bool
     requires { ⌜ (at ≤ 2 ^ 40) × (now joints ≡ jointsAt (now s) at) ⌝ }
-    requires { ⌜ (now scratch ≡ filledFloats (listOf (now s) at (outputs + 1))) × (now slopes ≡ filledFloats (listOf (now s) at (outputs + 2))) ⌝ }
+    requires { ⌜ (now scratch ≡ filledFloats (listOf (now s) at (objectiveOutputs + 1))) × (now slopes ≡ filledFloats (listOf (now s) at (objectiveOutputs + 2))) ⌝ }
     ensures { λ r. ⌜ r ≡ gradientAgrees state (now (s .entry)) at ⌝ }
 {
-    let answer = objective::gradient(state, joints, scratch, slopes);
-    let a = agree::answered(s, at, answer);
-    let b = agree::floats(a, s, at, table::SECOND, scratch);
-    agree::floats(b, s, at, table::THIRD, slopes)
+    let strict = strict(s, at);
+    let answer = objective::gradient(state, strict, joints, scratch, slopes);
+    let a = agree::answered(s, at, table::VALUE, answer);
+    let b = agree::floats(a, s, at, table::BLOCK, scratch);
+    agree::floats(b, s, at, table::SLOPES, slopes)
 }
 
 pub fn gradient_finite_diff(
@@ -81,13 +97,14 @@ pub fn gradient_finite_diff(
     slopes: &mut [f64],
 ) -> bool
     requires { ⌜ (at ≤ 2 ^ 40) × (now joints ≡ jointsAt (now s) at) ⌝ }
-    requires { ⌜ (now scratch ≡ filledFloats (listOf (now s) at (outputs + 1))) × (now slopes ≡ filledFloats (listOf (now s) at (outputs + 2))) ⌝ }
+    requires { ⌜ (now scratch ≡ filledFloats (listOf (now s) at (objectiveOutputs + 1))) × (now slopes ≡ filledFloats (listOf (now s) at (objectiveOutputs + 2))) ⌝ }
     ensures { λ r. ⌜ r ≡ finiteDiffAgrees state (now (s .entry)) at ⌝ }
 {
-    let answer = objective::gradient_finite_diff(state, joints, scratch, slopes);
-    let a = agree::answered(s, at, answer);
-    let b = agree::floats(a, s, at, table::SECOND, scratch);
-    agree::floats(b, s, at, table::THIRD, slopes)
+    let strict = strict(s, at);
+    let answer = objective::gradient_finite_diff(state, strict, joints, scratch, slopes);
+    let a = agree::answered(s, at, table::VALUE, answer);
+    let b = agree::floats(a, s, at, table::BLOCK, scratch);
+    agree::floats(b, s, at, table::SLOPES, slopes)
 }
 
 pub fn gradient_one_block(
@@ -101,26 +118,28 @@ pub fn gradient_one_block(
     record_poses: &mut [f64],
 ) -> bool
     requires { ⌜ (at ≤ 2 ^ 40) × (now block ≡ jointsAt (now s) at) ⌝ }
-    requires { ⌜ (now slopes ≡ filledFloats (listOf (now s) at (outputs + 2)))
-        × (now «record_joints» ≡ filledNumbers (listOf (now s) at (outputs + 3)))
-        × (now «record_links» ≡ filledNumbers (listOf (now s) at (outputs + 4)))
-        × (now «record_poses» ≡ filledFloats (listOf (now s) at (outputs + 5))) ⌝ }
+    requires { ⌜ (now slopes ≡ filledFloats (listOf (now s) at (objectiveOutputs + 2)))
+        × (now «record_joints» ≡ filledNumbers (listOf (now s) at (objectiveOutputs + 3)))
+        × (now «record_links» ≡ filledNumbers (listOf (now s) at (objectiveOutputs + 4)))
+        × (now «record_poses» ≡ filledFloats (listOf (now s) at (objectiveOutputs + 5))) ⌝ }
     ensures { λ r. ⌜ r ≡ oneBlockAgrees state (now (s .entry)) at ⌝ }
 {
+    let strict = strict(s, at);
     let answer = one_block_slopes::gradient_one_block(
         state,
+        strict,
         block,
         slopes,
         record_joints,
         record_links,
         record_poses,
     );
-    let a = agree::answered(s, at, answer);
-    let b = agree::floats(a, s, at, table::SECOND, block);
-    let c = agree::floats(b, s, at, table::THIRD, slopes);
-    let d = agree::numbers(c, s, at, table::FOURTH, record_joints);
-    let e = agree::numbers(d, s, at, table::FIFTH, record_links);
-    agree::floats(e, s, at, table::SIXTH, record_poses)
+    let a = agree::answered(s, at, table::VALUE, answer);
+    let b = agree::floats(a, s, at, table::BLOCK, block);
+    let c = agree::floats(b, s, at, table::SLOPES, slopes);
+    let d = agree::numbers(c, s, at, table::RECORD_JOINTS, record_joints);
+    let e = agree::numbers(d, s, at, table::RECORD_LINKS, record_links);
+    agree::floats(e, s, at, table::RECORD_POSES, record_poses)
 }
 
 // What the state keeps of its party.

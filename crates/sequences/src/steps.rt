@@ -53,7 +53,7 @@ fn frames(state: State, s: &[u8], at: usize, joints: &[f64]) -> bool
     ensures { λ r. ⌜ r ≡ framesAgree state (now (s .entry)) at ⌝ }
 {
     let m = room(s, at, table::OUTPUTS);
-    let n = room(s, at, table::SECOND);
+    let n = room(s, at, table::ROTATIONS);
     let mut a = buffer();
     let mut b = buffer();
     asked::frames(state, s, at, joints, &mut a[..m], &mut b[..n])
@@ -72,8 +72,8 @@ fn gradient(state: State, s: &[u8], at: usize, joints: &[f64]) -> bool
     requires { ⌜ (at ≤ 2 ^ 40) × (now joints ≡ jointsAt (now s) at) ⌝ }
     ensures { λ r. ⌜ r ≡ gradientAgrees state (now (s .entry)) at ⌝ }
 {
-    let m = room(s, at, table::SECOND);
-    let n = room(s, at, table::THIRD);
+    let m = room(s, at, table::BLOCK);
+    let n = room(s, at, table::SLOPES);
     let mut a = buffer();
     let mut b = buffer();
     asked::gradient(state, s, at, joints, &mut a[..m], &mut b[..n])
@@ -83,8 +83,8 @@ fn gradient_finite_diff(state: State, s: &[u8], at: usize, joints: &[f64]) -> bo
     requires { ⌜ (at ≤ 2 ^ 40) × (now joints ≡ jointsAt (now s) at) ⌝ }
     ensures { λ r. ⌜ r ≡ finiteDiffAgrees state (now (s .entry)) at ⌝ }
 {
-    let m = room(s, at, table::SECOND);
-    let n = room(s, at, table::THIRD);
+    let m = room(s, at, table::BLOCK);
+    let n = room(s, at, table::SLOPES);
     let mut a = buffer();
     let mut b = buffer();
     asked::gradient_finite_diff(state, s, at, joints, &mut a[..m], &mut b[..n])
@@ -96,10 +96,10 @@ fn gradient_one_block(state: State, s: &[u8], at: usize) -> bool
 {
     let mut x = [0.0; 64];
     let k = lent::floats(list(s, at, table::JOINTS), &mut x);
-    let l = room(s, at, table::THIRD);
-    let m = number_room(s, at, table::FOURTH);
-    let n = number_room(s, at, table::FIFTH);
-    let o = room(s, at, table::SIXTH);
+    let l = room(s, at, table::SLOPES);
+    let m = number_room(s, at, table::RECORD_JOINTS);
+    let n = number_room(s, at, table::RECORD_LINKS);
+    let o = room(s, at, table::RECORD_POSES);
     let mut a = buffer();
     let mut b = number_buffer();
     let mut c = number_buffer();

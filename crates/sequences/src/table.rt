@@ -25,18 +25,24 @@ pub const TOOL: usize = 0;
 pub const CHAIN: usize = TOOL + 1;
 // every other call but `kept`
 pub const JOINTS: usize = 0;
-
+// frames, pose and manipulability
 pub const OUTPUTS: usize = JOINTS + 1;
 
-pub const SECOND: usize = OUTPUTS + 1;
+pub const ROTATIONS: usize = OUTPUTS + 1;
+// objective and its gradients
+pub const PICK: usize = JOINTS + 1;
 
-pub const THIRD: usize = OUTPUTS + 2;
+pub const VALUE: usize = PICK + 1;
+// scratch, or the one block
+pub const BLOCK: usize = VALUE + 1;
 
-pub const FOURTH: usize = OUTPUTS + 3;
+pub const SLOPES: usize = VALUE + 2;
 
-pub const FIFTH: usize = OUTPUTS + 4;
+pub const RECORD_JOINTS: usize = VALUE + 3;
 
-pub const SIXTH: usize = OUTPUTS + 5;
+pub const RECORD_LINKS: usize = VALUE + 4;
+
+pub const RECORD_POSES: usize = VALUE + 5;
 // what the state keeps
 pub const KEPT_GOALS: usize = 0;
 
@@ -52,7 +58,7 @@ pub const KEPT_POSES: usize = 5;
 
 // How many lists a record of the step has.
 pub fn lists(call: usize) -> usize
-    ensures { λ r. ⌜ (r ≡ listsOf call) × (r ≤ 7) ⌝ }
+    ensures { λ r. ⌜ (r ≡ listsOf call) × (r ≤ 8) ⌝ }
 {
     match call {
         0 => return 0,
@@ -63,10 +69,10 @@ pub fn lists(call: usize) -> usize
         5 => return 3,
         6 => return 2,
         7 => return 2,
-        8 => return 2,
-        9 => return 4,
-        10 => return 4,
-        11 => return 7,
+        8 => return 3,
+        9 => return 5,
+        10 => return 5,
+        11 => return 8,
         12 => return 6,
         13 => return 1,
         _ => return 2,

@@ -1,14 +1,20 @@
 -- What a plan promises of lent lists: with those of the planned lengths no call answers 9 for them; one entry fewer in any of them, and it does, where no
 -- earlier refusal applies.
-use mathlib.Core.Path.{_≡_, ap, _∙_}
+use mathlib.Core.Path.{_≡_, refl, ap, _∙_}
+use mathlib.Core.Bool.{true, false}
 use mathlib.Core.Logic.{_⊎_, ⊎-elim}
 use mathlib.Core.List.{List}
-use Prim.Native.Nat.{ℕ, _≤_, _<_}
+use Prim.Native.Nat.{ℕ, _+_, _*_, _≤_, _<_}
+use native.Mathlib.Omega.{arith}
 use lib.Ieee.{Float}
+use lib.ListN.{length}
+use Rattle.task.specs.declared.picks.Picks.{Picks}
 use Rattle.refusals.specs.Lengths.{slopesLength, recordPosesLength}
 use Rattle.refusals.specs.Lowest.{firstOf, first-zero, first-last, first-is}
 use Rattle.refusals.specs.Refusal.{blockRefusal, roomRefusal}
 use Rattle.refusals.specs.Passed.{room-enough, room-short, room-behind}
+use Rattle.self_collision.specs.Pairs.{chainLengths, lengths-count}
+use Rattle.objective_master.specs.Count.{strict-shorter}
 use Rattle.calls.specs.Frames.{framesRefusal}
 use Rattle.calls.specs.OneBlock.{recordRefusal, oneBlockRefusal}
 use Rattle.sizing.specs.declared.plan.Plan.{Plan}
@@ -48,25 +54,37 @@ record-short plan rj rl rp h =
     (⊎-elim (λ (l : rl < n). first-is _ _ 8 (room-short n rl l)) (λ (p : rp < recordPosesLength n). room-behind n rl _ (room-short _ rp p)) more))
     h
 
-module _ (ns cs : List ℕ) (x : List Float) where
+module _ (picks : Picks) (ns cs : List ℕ) (x : List Float) where
   -- frames: with the planned lengths only the block is asked
-  pub frames-planned : (p r : ℕ) → FramesRoom (planOf ns cs) p r → framesRefusal ns cs x p r ≡ blockRefusal cs x
+  pub frames-planned : (p r : ℕ) → FramesRoom (planOf picks ns cs) p r → framesRefusal ns cs x p r ≡ blockRefusal cs x
   unfolding framesRefusal planOf
   frames-planned p r h = first-last _ _ (first-zero _ _ (room-enough _ p (h .positions)) ∙ room-enough _ r (h .rotations))
 
-  pub frames-short : (p r : ℕ) → blockRefusal cs x ≡ 0 → FramesShort (planOf ns cs) p r → framesRefusal ns cs x p r ≡ 9
+  pub frames-short : (p r : ℕ) → blockRefusal cs x ≡ 0 → FramesShort (planOf picks ns cs) p r → framesRefusal ns cs x p r ≡ 9
   unfolding framesRefusal planOf
   frames-short p r q h =
       first-zero _ _ q
-      ∙ ⊎-elim (λ (a : p < planOf ns cs .positions). first-is _ _ 8 (room-short _ p a)) (λ (b : r < planOf ns cs .rotations). room-behind _ p _ (room-short _ r b)) h
+      ∙ ⊎-elim (λ (a : p < planOf picks ns cs .positions). first-is _ _ 8 (room-short _ p a)) (λ (b : r < planOf picks ns cs .rotations). room-behind _ p _ (room-short _ r b)) h
 
   -- the gradient on one block: only the block and the slopes are asked
-  pub one-block-planned : (slopes rj rl rp : ℕ) → RecordRoom (planOf ns cs) rj rl rp
+  pub one-block-planned : (slopes rj rl rp : ℕ) → RecordRoom (planOf picks ns cs) rj rl rp
       → oneBlockRefusal ns cs x slopes rj rl rp ≡ firstOf (blockRefusal cs x) (roomRefusal (slopesLength cs) slopes)
   unfolding oneBlockRefusal planOf
   one-block-planned slopes rj rl rp h =
-      ap (firstOf (blockRefusal cs x)) (first-last _ _ (record-room (planOf ns cs) rj rl rp h))
+      ap (firstOf (blockRefusal cs x)) (first-last _ _ (record-room (planOf picks ns cs) rj rl rp h))
 
-  pub one-block-short : (slopes rj rl rp : ℕ) → blockRefusal cs x ≡ 0 → RecordShort (planOf ns cs) rj rl rp → oneBlockRefusal ns cs x slopes rj rl rp ≡ 9
+  pub one-block-short : (slopes rj rl rp : ℕ) → blockRefusal cs x ≡ 0 → RecordShort (planOf picks ns cs) rj rl rp → oneBlockRefusal ns cs x slopes rj rl rp ≡ 9
   unfolding oneBlockRefusal planOf
-  one-block-short slopes rj rl rp q h = first-zero _ _ q ∙ room-behind _ slopes _ (record-short (planOf ns cs) rj rl rp h)
+  one-block-short slopes rj rl rp q h = first-zero _ _ q ∙ room-behind _ slopes _ (record-short (planOf picks ns cs) rj rl rp h)
+
+-- under the strict pick a sheet has four objectives fewer for each chain, and the lists' lengths are the same
+pub record FourFewer (chains : ℕ) (strict tolerance : Plan) : Type 0 where
+  pub objectives : strict .objectives + 4 * chains ≡ tolerance .objectives
+  pub positions : strict .positions ≡ tolerance .positions
+  pub rotations : strict .rotations ≡ tolerance .rotations
+  pub entries : strict .entries ≡ tolerance .entries
+
+pub strict-planned : (ns cs : List ℕ) → FourFewer (length ns) (planOf (record { strict = true }) ns cs) (planOf (record { strict = false }) ns cs)
+unfolding planOf
+strict-planned ns cs =
+    record { objectives = omega (arith, strict-shorter (chainLengths ns cs), lengths-count ns cs); positions = refl; rotations = refl; entries = refl }

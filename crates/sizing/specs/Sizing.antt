@@ -9,6 +9,7 @@ use borrow.Author.Tests.{eq-eqb, ne-eqb}
 use lib.Ieee.{Float}
 use lib.ListN.{length}
 use Rattle.sheet.specs.Chain.{total}
+use Rattle.task.specs.declared.picks.Picks.{Picks}
 use Rattle.objective_master.specs.Objective.{objectiveCount}
 use Rattle.objective_master.specs.Count.{objectives-few}
 use Rattle.one_block.specs.Record.{entriesOf}
@@ -23,13 +24,13 @@ use Rattle.sizing.specs.declared.plan.Plan.{Plan}
 use Rattle.sizing.specs.declared.plan.Sizing.{Sizing}
 use Rattle.sizing.specs.declared.plan.Sizing.the-variants.{Planned, Refused}
 
--- floats of both frame lists, objectives, entries of the one-block record; ns are the links per chain, cs the codes
-unfoldable pub planOf : List ℕ → List ℕ → Plan
-planOf ns cs = record { positions = positionsLength ns; rotations = rotationsLength ns; objectives = objectiveCount ns cs; entries = entriesOf ns cs }
+-- floats of both frame lists, objectives of the list that is picked, entries of the one-block record; ns are the links per chain, cs the codes
+unfoldable pub planOf : Picks → List ℕ → List ℕ → Plan
+planOf p ns cs = record { positions = positionsLength ns; rotations = rotationsLength ns; objectives = objectiveCount p ns cs; entries = entriesOf ns cs }
 
 -- of a sheet
-abbrev pub sheetPlan : List ℕ → List ℕ → Plan
-sheetPlan sizes codes = planOf (linksOf sizes) codes
+abbrev pub sheetPlan : Picks → List ℕ → List ℕ → Plan
+sheetPlan p sizes codes = planOf p (linksOf sizes) codes
 
 -- a plan's numbers, in the order in which they are written
 unfoldable pub planList : Plan → List ℕ
@@ -40,8 +41,8 @@ unfoldable pub plannedIf : ℕ → Plan → Sizing
 plannedIf number plan = cond (eqb number 0) (Planned plan) (Refused number)
 
 -- what sizing answers for a sheet
-unfoldable pub sizingOf : List ℕ → List ℕ → List Float → Sizing
-sizingOf sizes codes floats = plannedIf (sizingRefusal sizes codes floats) (sheetPlan sizes codes)
+unfoldable pub sizingOf : Picks → List ℕ → List ℕ → List Float → Sizing
+sizingOf p sizes codes floats = plannedIf (sizingRefusal sizes codes floats) (sheetPlan p sizes codes)
 
 -- the number of an answer: 0 with a plan
 abbrev pub sizingNumberOf : Sizing → ℕ
@@ -49,10 +50,10 @@ sizingNumberOf (Planned plan) = 0
 sizingNumberOf (Refused number) = number
 
 -- ---- laws
-pub plan-made : (ns cs : List ℕ) (p r o e : ℕ) → p ≡ positionsLength ns → r ≡ rotationsLength ns → o ≡ objectiveCount ns cs → e ≡ entriesOf ns cs
-    → record { positions = p; rotations = r; objectives = o; entries = e } ≡ planOf ns cs
+pub plan-made : (picks : Picks) (ns cs : List ℕ) (p r o e : ℕ) → p ≡ positionsLength ns → r ≡ rotationsLength ns → o ≡ objectiveCount picks ns cs → e ≡ entriesOf ns cs
+    → record { positions = p; rotations = r; objectives = o; entries = e } ≡ planOf picks ns cs
 unfolding planOf
-plan-made ns cs p r o e a b c d = rw (a, b, c, d)
+plan-made picks ns cs p r o e a b c d = rw (a, b, c, d)
 
 -- each number of a plan fits two bytes
 pub record Small (plan : Plan) : Type 0 where
@@ -88,29 +89,29 @@ unfolding plannedIf
 number-if zero sheet = refl
 number-if (suc k) sheet = rw (ne-eqb (suc k) 0 (λ z. omega arith))
 
-module _ (sizes codes : List ℕ) (floats : List Float) where
+module _ (p : Picks) (sizes codes : List ℕ) (floats : List Float) where
   -- the number is the lowest of those of loading but 5
-  pub sizing-number : sizingNumberOf (sizingOf sizes codes floats) ≡ sizingRefusal sizes codes floats
+  pub sizing-number : sizingNumberOf (sizingOf p sizes codes floats) ≡ sizingRefusal sizes codes floats
   unfolding sizingOf
-  sizing-number = number-if (sizingRefusal sizes codes floats) (sheetPlan sizes codes)
+  sizing-number = number-if (sizingRefusal sizes codes floats) (sheetPlan p sizes codes)
 
   -- a plan is answered for a sheet that is taken, and is that sheet's
-  pub planned-is : (plan : Plan) → sizingOf sizes codes floats ≡ Planned plan → (sizingRefusal sizes codes floats ≡ 0) × (plan ≡ sheetPlan sizes codes)
+  pub planned-is : (plan : Plan) → sizingOf p sizes codes floats ≡ Planned plan → (sizingRefusal sizes codes floats ≡ 0) × (plan ≡ sheetPlan p sizes codes)
   unfolding sizingOf
-  planned-is plan e = planned-if (sizingRefusal sizes codes floats) (sheetPlan sizes codes) plan e
+  planned-is plan e = planned-if (sizingRefusal sizes codes floats) (sheetPlan p sizes codes) plan e
 
   -- and a refusal has the sheet's number, which is not 0
-  pub refused-is : (n : ℕ) → sizingOf sizes codes floats ≡ Refused n → (n ≡ 0 → ⊥) × (n ≡ sizingRefusal sizes codes floats)
+  pub refused-is : (n : ℕ) → sizingOf p sizes codes floats ≡ Refused n → (n ≡ 0 → ⊥) × (n ≡ sizingRefusal sizes codes floats)
   unfolding sizingOf
-  refused-is n e = refused-if (sizingRefusal sizes codes floats) (sheetPlan sizes codes) n e
+  refused-is n e = refused-if (sizingRefusal sizes codes floats) (sheetPlan p sizes codes) n e
 
-  pub sizing-refused : (sizingRefusal sizes codes floats ≡ 0 → ⊥) → sizingOf sizes codes floats ≡ Refused (sizingRefusal sizes codes floats)
+  pub sizing-refused : (sizingRefusal sizes codes floats ≡ 0 → ⊥) → sizingOf p sizes codes floats ≡ Refused (sizingRefusal sizes codes floats)
   unfolding sizingOf plannedIf
   sizing-refused h = rw (ne-eqb _ 0 h)
 
   -- a sheet that sizing takes
   module _ (e : sizingRefusal sizes codes floats ≡ 0) where
-    pub sizing-taken : sizingOf sizes codes floats ≡ Planned (sheetPlan sizes codes)
+    pub sizing-taken : sizingOf p sizes codes floats ≡ Planned (sheetPlan p sizes codes)
     unfolding sizingOf plannedIf
     sizing-taken = rw (eq-eqb _ 0 e)
 
@@ -120,7 +121,7 @@ module _ (sizes codes : List ℕ) (floats : List Float) where
     pub sizing-accepted : Accepted (linksOf sizes) codes floats
     sizing-accepted = arms-passed sizes codes floats shaped
 
-    pub plan-small : Small (sheetPlan sizes codes)
+    pub plan-small : Small (sheetPlan p sizes codes)
     unfolding planOf
     plan-small =
         let ns = linksOf sizes in
@@ -130,6 +131,6 @@ module _ (sizes codes : List ℕ) (floats : List Float) where
           positions = omega (arith, positions-most ns (a .chains .few) links);
           rotations = omega (arith, rotations-most ns (a .chains .few) links);
           objectives =
-              omega (arith, objectives-few ns codes (record { whole = a .whole; few = a .few }) (shape-two sizes codes (length floats) (shape-passed sizes codes (length floats) shaped)));
+              omega (arith, objectives-few ns codes (record { whole = a .whole; few = a .few }) (shape-two sizes codes (length floats) (shape-passed sizes codes (length floats) shaped)) p);
           entries = omega (arith, entries-most ns codes (a .whole) (a .links));
         }

@@ -2,6 +2,7 @@
 use objective_master::count;
 use one_block::grad;
 use refusals::lengths;
+use task::picks::Picks;
 ghost use mathlib.Core.Path.{_≡_};
 ghost use Rattle.lists.specs.Lent.{lent};
 ghost use Rattle.calls.specs.Arms.{Accepted};
@@ -21,13 +22,13 @@ pub enum Sizing {
 }
 
 // The plan of a good sheet.
-pub(crate) fn of_sheet(counts: &[u16], codes: &[u16], floats: &[f64]) -> Plan
+pub(crate) fn of_sheet(counts: &[u16], codes: &[u16], floats: &[f64], picks: Picks) -> Plan
     requires { ⌜ Accepted (now counts) (now codes) (now floats) ⌝ }
-    ensures { λ r. ⌜ r ≡ planOf (lent counts) (lent codes) ⌝ }
+    ensures { λ r. ⌜ r ≡ planOf picks (lent counts) (lent codes) ⌝ }
 {
     let positions = lengths::positions_length(counts);
     let rotations = lengths::rotations_length(counts);
-    let objectives = count::objective_count(counts, codes);
+    let objectives = count::objective_count(counts, codes, picks);
     let entries = grad::entries(counts, codes);
     Plan {
         positions: positions,

@@ -11,3 +11,4 @@ pub mod Numbers
 pub mod Planned
 pub mod Weights
 pub mod Tools
+pub mod Strict

@@ -8,6 +8,7 @@ use native.Mathlib.Omega.{arith}
 use borrow.Author.Tests.{ne-eqb}
 use lib.Ieee.{Float}
 use Rattle.sheet.specs.Chain.{joints}
+use Rattle.task.specs.declared.picks.Picks.{Picks}
 use Rattle.refusals.specs.Lengths.{slopesLength}
 use Rattle.refusals.specs.Lowest.{firstOf, first-zero, first-last, first-is}
 use Rattle.refusals.specs.Refusal.{linksOf, badLimits, loadRefusal, blockRefusal, roomRefusal}
@@ -63,20 +64,20 @@ module _ (s : State) (sizes codes : List ℕ) (floats limits : List Float) where
 
   -- ---- sizing and loading
   -- a sheet that load takes is taken by sizing
-  pub load-then-sizing : loadOf s sizes codes floats limits .number ≡ 0 → sizingOf sizes codes floats ≡ Planned (sheetPlan sizes codes)
+  pub load-then-sizing : (picks : Picks) → loadOf s sizes codes floats limits .number ≡ 0 → sizingOf picks sizes codes floats ≡ Planned (sheetPlan picks sizes codes)
   unfolding loadOf outcomeOf
-  load-then-sizing e = sizing-taken sizes codes floats (load-sizing sizes codes floats limits e)
+  load-then-sizing picks e = sizing-taken picks sizes codes floats (load-sizing sizes codes floats limits e)
 
   -- one that sizing takes, with good limits, by load
-  pub sizing-then-load : (plan : Plan) → sizingOf sizes codes floats ≡ Planned plan → badLimits (joints codes) limits ≡ false
+  pub sizing-then-load : (picks : Picks) (plan : Plan) → sizingOf picks sizes codes floats ≡ Planned plan → badLimits (joints codes) limits ≡ false
       → loadOf s sizes codes floats limits .number ≡ 0
   unfolding loadOf outcomeOf
-  sizing-then-load plan e good = sizing-load sizes codes floats limits (planned-is sizes codes floats plan e .0) good
+  sizing-then-load picks plan e good = sizing-load sizes codes floats limits (planned-is picks sizes codes floats plan e .0) good
 
 -- ---- the calls
-module _ (sizes codes : List ℕ) (floats : List Float) (plan : Plan) (answered : sizingOf sizes codes floats ≡ Planned plan) (s : State) (held : Holds sizes codes (s .arms)) (x : List Float) where
-  own : plan ≡ sheetPlan sizes codes
-  own = planned-is sizes codes floats plan answered .1
+module _ (picks : Picks) (sizes codes : List ℕ) (floats : List Float) (plan : Plan) (answered : sizingOf picks sizes codes floats ≡ Planned plan) (s : State) (held : Holds sizes codes (s .arms)) (x : List Float) where
+  own : plan ≡ sheetPlan picks sizes codes
+  own = planned-is picks sizes codes floats plan answered .1
 
   frames-held : (p r : ℕ) → framesNumberOf s x p r ≡ framesRefusal (linksOf sizes) codes x p r
   unfolding framesStored ifArms
@@ -84,13 +85,13 @@ module _ (sizes codes : List ℕ) (floats : List Float) (plan : Plan) (answered 
 
   -- frames with the planned lengths: only the block is asked
   pub frames-stored-planned : (p r : ℕ) → FramesRoom plan p r → framesNumberOf s x p r ≡ blockRefusal codes x
-  frames-stored-planned p r h = frames-held p r ∙ frames-planned (linksOf sizes) codes x p r (subst (λ q. FramesRoom q p r) own h)
+  frames-stored-planned p r h = frames-held p r ∙ frames-planned picks (linksOf sizes) codes x p r (subst (λ q. FramesRoom q p r) own h)
 
   pub frames-stored-never-nine : (p r : ℕ) → FramesRoom plan p r → framesNumberOf s x p r ≡ 9 → ⊥
   frames-stored-never-nine p r h nine = omega (arith, nine, frames-stored-planned p r h, block-most codes x)
 
   pub frames-stored-short : (p r : ℕ) → blockRefusal codes x ≡ 0 → FramesShort plan p r → framesNumberOf s x p r ≡ 9
-  frames-stored-short p r q h = frames-held p r ∙ frames-short (linksOf sizes) codes x p r q (subst (λ q. FramesShort q p r) own h)
+  frames-stored-short p r q h = frames-held p r ∙ frames-short picks (linksOf sizes) codes x p r q (subst (λ q. FramesShort q p r) own h)
 
   one-block-held : (slopes rj rl rp : ℕ) → oneBlockNumberOf s x slopes rj rl rp
       ≡ firstOf (stateNumber true (s .party .«has_goals») (s .party .started)) (oneBlockRefusal (linksOf sizes) codes x slopes rj rl rp)
@@ -103,7 +104,7 @@ module _ (sizes codes : List ℕ) (floats : List Float) (plan : Plan) (answered 
   one-block-stored-planned slopes rj rl rp h =
       one-block-held slopes rj rl rp
       ∙ ap (firstOf (stateNumber true (s .party .«has_goals») (s .party .started)))
-      (one-block-planned (linksOf sizes) codes x slopes rj rl rp (subst (λ q. RecordRoom q rj rl rp) own h))
+      (one-block-planned picks (linksOf sizes) codes x slopes rj rl rp (subst (λ q. RecordRoom q rj rl rp) own h))
 
   pub one-block-stored-never-nine : (slopes rj rl rp : ℕ) → slopesLength codes ≤ slopes → RecordRoom plan rj rl rp → oneBlockNumberOf s x slopes rj rl rp ≡ 9 → ⊥
   unfolding stateNumber
@@ -124,4 +125,4 @@ module _ (sizes codes : List ℕ) (floats : List Float) (plan : Plan) (answered 
   one-block-stored-short slopes rj rl rp goals started q h =
       one-block-held slopes rj rl rp
       ∙ first-zero _ _ (rw (goals, started))
-      ∙ one-block-short (linksOf sizes) codes x slopes rj rl rp q (subst (λ q. RecordShort q rj rl rp) own h)
+      ∙ one-block-short picks (linksOf sizes) codes x slopes rj rl rp q (subst (λ q. RecordShort q rj rl rp) own h)

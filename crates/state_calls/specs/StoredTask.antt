@@ -10,6 +10,7 @@ use lib.Ieee.{Float, nan}
 use lib.ListN.{length, take, drop, getD}
 use lib.Seq.{length-take-le}
 use Rattle.sheet.specs.Chain.{total}
+use Rattle.task.specs.declared.picks.Picks.{Picks}
 use Rattle.task.specs.Task.{taskLength, Given, givenOf}
 use Rattle.task.specs.Laid.{Apart, apart}
 use Rattle.refusals.specs.Lowest.{firstOf, first-zero, first-some, first-none}
@@ -41,17 +42,17 @@ objectiveStored ss cs goals started x = afterState ss cs goals started (blockRef
 unfoldable pub slopesStored : List ℕ → List ℕ → Bool → Bool → List Float → ℕ → ℕ → ℕ
 slopesStored ss cs goals started x scratch slopes = afterState ss cs goals started (slopesRefusal (codesUsed ss cs) x scratch slopes)
 
--- what the objectives look at: the sheet in use, and of the list what is in use
-unfoldable pub givenStored : List ℕ → List ℕ → List Float → Given
-givenStored ss cs task = givenOf (linksUsed ss) (codesUsed ss cs) task
+-- what the objectives look at: the sheet in use, of the list what is in use, and what the caller picked
+unfoldable pub givenStored : List ℕ → List ℕ → List Float → Picks → Given
+givenStored ss cs task picks = givenOf (linksUsed ss) (codesUsed ss cs) task picks
 
 -- the objective's value at block x
-abbrev pub valueStored : List ℕ → List ℕ → List Float → List Float → List Float → Float
-valueStored ss cs gs task x = valueAt (givenStored ss cs task) (floatsUsed ss gs) x
+abbrev pub valueStored : List ℕ → List ℕ → List Float → List Float → Picks → List Float → Float
+valueStored ss cs gs task picks x = valueAt (givenStored ss cs task picks) (floatsUsed ss gs) x
 
 -- its gradient there
-abbrev pub gradientStored : List ℕ → List ℕ → List Float → List Float → List Float → List Float
-gradientStored ss cs gs task x = gradientOf (givenStored ss cs task) (floatsUsed ss gs) x
+abbrev pub gradientStored : List ℕ → List ℕ → List Float → List Float → Picks → List Float → List Float
+gradientStored ss cs gs task picks x = gradientOf (givenStored ss cs task picks) (floatsUsed ss gs) x
 
 -- the lengths of the stored arrays, and of the list
 pub record Arrays (ss cs : List ℕ) (gs task : List Float) : Type 0 where

@@ -1,6 +1,6 @@
 -- Setting a chain's tool. A refusal keeps the old state.
 use mathlib.Core.Path.{_≡_, refl, sym, ap, _∙_}
-use mathlib.Core.Bool.{true}
+use mathlib.Core.Bool.{Bool, true}
 use mathlib.Core.Logic.{⊎-elim}
 use mathlib.Core.List.{List, [], _∷_}
 use Prim.Native.Nat.{ℕ, _+_, _-_, _*_, _≤_, _<_}
@@ -82,23 +82,23 @@ module _ (s : State) (sizes codes : List ℕ) (floats limits : List Float) where
   pub refused-load-keeps-tools : (loadOf s sizes codes floats limits .number ≡ 0 → ⊥) → loadOf s sizes codes floats limits .state .arms .tools ≡ s .arms .tools
   refused-load-keeps-tools h = ap (λ (a : Arms). a .tools) (refused-load-keeps-arms s sizes codes floats limits h)
 
--- state s answers what it answered before there were tools: the objectives look at an empty list of tools (whose losses are those at the last frames:
+-- state s answers what it answered before there were tools, whichever list is picked: the objectives look at an empty list of tools (whose losses are those at the last frames:
 -- `losses-last` of calls), the one-block gradient's slopes are the gradient's, and the end poses of pose and reset are the last frames
 pub record AnsweredBare (s : State) : Type 0 where
-  pub value : (x : List Float) → objectiveValueOf s x ≡ valueAt (bare (givenState s)) (linkFloats s) x
-  pub slopes : (x : List Float) → gradientSlopesOf s x ≡ gradientOf (bare (givenState s)) (linkFloats s) x
-  pub finite-diff-slopes : (x : List Float) → finiteDiffSlopesOf s x ≡ finiteDiffOf (bare (givenState s)) (linkFloats s) x
+  pub value : (strict : Bool) (x : List Float) → objectiveValueOf s strict x ≡ valueAt (bare (givenState s strict)) (linkFloats s) x
+  pub slopes : (strict : Bool) (x : List Float) → gradientSlopesOf s strict x ≡ gradientOf (bare (givenState s strict)) (linkFloats s) x
+  pub finite-diff-slopes : (strict : Bool) (x : List Float) → finiteDiffSlopesOf s strict x ≡ finiteDiffOf (bare (givenState s strict)) (linkFloats s) x
   pub ends : (x : List Float) → endsOf (linksUsed (s .arms .sizes)) (s .arms .tools) (posesOf s x) ≡ lastsOf (linksUsed (s .arms .sizes)) (posesOf s x)
 
 -- where no chain has a tool every answer is the one before (numbers do not look at tools)
 pub no-tool-set : (s : State) → NoTool (s .arms .tools) → AnsweredBare s
 unfolding givenState toolsUsed
 no-tool-set s none =
-    let given : NoTool (givenState s .tools) = take-none (8 * length (linksUsed (s .arms .sizes))) (s .arms .tools) none in
+    let given : (strict : Bool) → NoTool (givenState s strict .tools) = λ p. take-none (8 * length (linksUsed (s .arms .sizes))) (s .arms .tools) none in
     record {
-      value = value-bare (givenState s) given (linkFloats s);
-      slopes = slopes-bare (givenState s) given EachLoss (linkFloats s);
-      finite-diff-slopes = slopes-bare (givenState s) given WeightedSum (linkFloats s);
+      value = λ p. value-bare (givenState s p) (given p) (linkFloats s);
+      slopes = λ p. slopes-bare (givenState s p) (given p) EachLoss (linkFloats s);
+      finite-diff-slopes = λ p. slopes-bare (givenState s p) (given p) WeightedSum (linkFloats s);
       ends = λ x. ends-last (linksUsed (s .arms .sizes)) (s .arms .tools) (posesOf s x) none;
     }
 

@@ -1,6 +1,6 @@
 -- Setting the weights. They belong to no arms, so none are asked for. A refusal keeps the old state.
 use mathlib.Core.Path.{_≡_, refl, sym, ap, _∙_}
-use mathlib.Core.Bool.{true, false}
+use mathlib.Core.Bool.{Bool, true, false}
 use mathlib.Core.List.{List}
 use Prim.Native.Nat.{ℕ}
 use native.Mathlib.Omega.{arith}
@@ -88,14 +88,14 @@ module _ (s : State) (x : List Float) where
   update-keeps-weights = outcome-keeps (λ t. t .weights) _ s _ refl
 
 -- ---- laws: what was answered before there were weights to load
--- state t answers what the arms, goals and history of s answered then; the one-block gradient's slopes are the gradient's
+-- state t answers what the arms, goals and history of s answered then, whichever list is picked; the one-block gradient's slopes are the gradient's
 pub record AnsweredBuiltIn (s t : State) : Type 0 where
-  pub value : (x : List Float) → objectiveValueOf t x ≡ valueAt (builtIn (givenState s)) (linkFloats s) x
-  pub slopes : (x : List Float) → gradientSlopesOf t x ≡ gradientOf (builtIn (givenState s)) (linkFloats s) x
-  pub finite-diff-slopes : (x : List Float) → finiteDiffSlopesOf t x ≡ finiteDiffOf (builtIn (givenState s)) (linkFloats s) x
+  pub value : (strict : Bool) (x : List Float) → objectiveValueOf t strict x ≡ valueAt (builtIn (givenState s strict)) (linkFloats s) x
+  pub slopes : (strict : Bool) (x : List Float) → gradientSlopesOf t strict x ≡ gradientOf (builtIn (givenState s strict)) (linkFloats s) x
+  pub finite-diff-slopes : (strict : Bool) (x : List Float) → finiteDiffSlopesOf t strict x ≡ finiteDiffOf (builtIn (givenState s strict)) (linkFloats s) x
 
-answered : (s t : State) → givenState t ≡ builtIn (givenState s) → linkFloats t ≡ linkFloats s → AnsweredBuiltIn s t
-answered s t g f = record { value = λ x. rw (g, f); slopes = λ x. rw (g, f); finite-diff-slopes = λ x. rw (g, f) }
+answered : (s t : State) → ((strict : Bool) → givenState t strict ≡ builtIn (givenState s strict)) → linkFloats t ≡ linkFloats s → AnsweredBuiltIn s t
+answered s t g f = record { value = λ p x. rw (g p, f); slopes = λ p x. rw (g p, f); finite-diff-slopes = λ p x. rw (g p, f) }
 
 -- at the start none is loaded
 pub no-weights : emptyState .weights .loaded ≡ false
@@ -105,11 +105,11 @@ no-weights = refl
 -- with no list loaded every weighted answer is the one before
 pub no-list-loaded : (s : State) → s .weights .loaded ≡ false → AnsweredBuiltIn s s
 unfolding givenState
-no-list-loaded s e = answered s s (built-in-same (givenState s) (rw e (none-in-force (s .weights .list)))) refl
+no-list-loaded s e = answered s s (λ p. built-in-same (givenState s p) (rw e (none-in-force (s .weights .list)))) refl
 
 -- and so it is with the built-in weights loaded as a list, whatever was loaded before
 pub built-in-loaded : (s : State) → AnsweredBuiltIn s (setWeightsOf s weightPriors .state)
 unfolding withWeights givenState builtIn
 built-in-loaded s =
     rw (weights-taken s weightPriors priors-pass)
-    (answered s (withWeights s weightPriors) (built-in-same (givenState (withWeights s weightPriors)) (loaded-in-force weightPriors)) refl)
+    (answered s (withWeights s weightPriors) (λ p. built-in-same (givenState (withWeights s weightPriors) p) (loaded-in-force weightPriors)) refl)

@@ -1,8 +1,9 @@
-// The objective and its gradients.
+// The objective and its gradients; `strict` picks the list for goals without tolerance.
 use crate::state::State;
 use crate::stored_task;
 use calls::answer::Answer;
 use gradient::slopes::Rule;
+use task::picks::Picks;
 ghost use mathlib.Core.Path.{_≡_};
 ghost use lib.ListN.{length};
 ghost use Rattle.lists.specs.Splice.{splice};
@@ -14,9 +15,9 @@ ghost use Rattle.calls.specs.AcceptedTask.{FrontIfTaken};
 ghost use Rattle.state_calls.specs.Objective.{givenState, linkFloats, objectiveNumberOf, objectiveValueOf, gradientNumberOf, gradientSlopesOf, finiteDiffSlopesOf};
 
 // The weighted sum of all objectives at a block of joints.
-pub fn objective(state: State, joints: &[f64]) -> Answer
+pub fn objective(state: State, strict: bool, joints: &[f64]) -> Answer
     ensures number { λ r. ⌜ numberOf r ≡ objectiveNumberOf state (now (joints .entry)) ⌝ }
-    ensures value { λ r. ⌜ answerValue r ≡ valueIf (numberOf r) (objectiveValueOf state (now (joints .entry))) ⌝ }
+    ensures value { λ r. ⌜ answerValue r ≡ valueIf (numberOf r) (objectiveValueOf state strict (now (joints .entry))) ⌝ }
     ensures case { λ r. ⌜ r ≡ answerOf (numberOf r) (answerValue r) ⌝ }
 {
     let arms = state.arms;
@@ -27,6 +28,7 @@ pub fn objective(state: State, joints: &[f64]) -> Answer
     let tools = arms.tools;
     let weights = state.weights;
     let party = state.party;
+    let picks = Picks { strict: strict };
     let mut task = [0.0; task::LENGTH];
     stored_task::lay_task(weights, &limits, &tools, party, &mut task);
     stored_task::objective_on(
@@ -34,6 +36,7 @@ pub fn objective(state: State, joints: &[f64]) -> Answer
         &codes,
         &floats,
         &task,
+        picks,
         party.has_goals,
         party.started,
         joints,
@@ -44,15 +47,16 @@ pub fn objective(state: State, joints: &[f64]) -> Answer
 fn gradient_by(
     rule: Rule,
     state: State,
+    picks: Picks,
     joints: &[f64],
     scratch: &mut [f64],
     slopes: &mut [f64],
 ) -> Answer
     ensures number { λ r. ⌜ numberOf r ≡ gradientNumberOf state (lent joints) (length (lent scratch)) (length (lent slopes)) ⌝ }
-    ensures value { λ r. ⌜ answerValue r ≡ valueIf (numberOf r) (objectiveValueOf state (lent joints)) ⌝ }
+    ensures value { λ r. ⌜ answerValue r ≡ valueIf (numberOf r) (objectiveValueOf state (picks .strict) (lent joints)) ⌝ }
     ensures case { λ r. ⌜ r ≡ answerOf (numberOf r) (answerValue r) ⌝ }
     ensures scratch { λ r. ⌜ FrontIfTaken (numberOf r) scratch (lent joints) ⌝ }
-    ensures slopes { λ r. ⌜ FrontIfTaken (numberOf r) slopes (slopesOf rule (givenState state) (linkFloats state) (lent joints)) ⌝ }
+    ensures slopes { λ r. ⌜ FrontIfTaken (numberOf r) slopes (slopesOf rule (givenState state (picks .strict)) (linkFloats state) (lent joints)) ⌝ }
 {
     let arms = state.arms;
     let sizes = arms.sizes;
@@ -70,6 +74,7 @@ fn gradient_by(
         &codes,
         &floats,
         &task,
+        picks,
         party.has_goals,
         party.started,
         joints,
@@ -79,28 +84,37 @@ fn gradient_by(
 }
 
 // Each objective's slope along each joint by a step of 1e-7, weighted and added, and the objective at the joints. Scratch ends equal to the joints.
-pub fn gradient(state: State, joints: &[f64], scratch: &mut [f64], slopes: &mut [f64]) -> Answer
-    ensures number { λ r. ⌜ numberOf r ≡ gradientNumberOf state (now (joints .entry)) (length (now (scratch .entry))) (length (now (slopes .entry))) ⌝ }
-    ensures value { λ r. ⌜ answerValue r ≡ valueIf (numberOf r) (objectiveValueOf state (now (joints .entry))) ⌝ }
-    ensures case { λ r. ⌜ r ≡ answerOf (numberOf r) (answerValue r) ⌝ }
-    ensures scratch { λ r. ⌜ now (scratch .exit) ≡ ifTaken (numberOf r) (now (scratch .entry)) (splice (now (scratch .entry)) 0 (now (joints .entry))) ⌝ }
-    ensures slopes { λ r. ⌜ now (slopes .exit) ≡ ifTaken (numberOf r) (now (slopes .entry)) (splice (now (slopes .entry)) 0 (gradientSlopesOf state (now (joints .entry)))) ⌝ }
-{
-    gradient_by(Rule::EachLoss, state, joints, scratch, slopes)
-}
-
-// The slope of the objective along each joint by a step of 1e-6, and the objective at the joints. Scratch ends equal to the joints.
-pub fn gradient_finite_diff(
+pub fn gradient(
     state: State,
+    strict: bool,
     joints: &[f64],
     scratch: &mut [f64],
     slopes: &mut [f64],
 ) -> Answer
     ensures number { λ r. ⌜ numberOf r ≡ gradientNumberOf state (now (joints .entry)) (length (now (scratch .entry))) (length (now (slopes .entry))) ⌝ }
-    ensures value { λ r. ⌜ answerValue r ≡ valueIf (numberOf r) (objectiveValueOf state (now (joints .entry))) ⌝ }
+    ensures value { λ r. ⌜ answerValue r ≡ valueIf (numberOf r) (objectiveValueOf state strict (now (joints .entry))) ⌝ }
     ensures case { λ r. ⌜ r ≡ answerOf (numberOf r) (answerValue r) ⌝ }
     ensures scratch { λ r. ⌜ now (scratch .exit) ≡ ifTaken (numberOf r) (now (scratch .entry)) (splice (now (scratch .entry)) 0 (now (joints .entry))) ⌝ }
-    ensures slopes { λ r. ⌜ now (slopes .exit) ≡ ifTaken (numberOf r) (now (slopes .entry)) (splice (now (slopes .entry)) 0 (finiteDiffSlopesOf state (now (joints .entry)))) ⌝ }
+    ensures slopes { λ r. ⌜ now (slopes .exit) ≡ ifTaken (numberOf r) (now (slopes .entry)) (splice (now (slopes .entry)) 0 (gradientSlopesOf state strict (now (joints .entry)))) ⌝ }
 {
-    gradient_by(Rule::WeightedSum, state, joints, scratch, slopes)
+    let picks = Picks { strict: strict };
+    gradient_by(Rule::EachLoss, state, picks, joints, scratch, slopes)
+}
+
+// The slope of the objective along each joint by a step of 1e-6, and the objective at the joints. Scratch ends equal to the joints.
+pub fn gradient_finite_diff(
+    state: State,
+    strict: bool,
+    joints: &[f64],
+    scratch: &mut [f64],
+    slopes: &mut [f64],
+) -> Answer
+    ensures number { λ r. ⌜ numberOf r ≡ gradientNumberOf state (now (joints .entry)) (length (now (scratch .entry))) (length (now (slopes .entry))) ⌝ }
+    ensures value { λ r. ⌜ answerValue r ≡ valueIf (numberOf r) (objectiveValueOf state strict (now (joints .entry))) ⌝ }
+    ensures case { λ r. ⌜ r ≡ answerOf (numberOf r) (answerValue r) ⌝ }
+    ensures scratch { λ r. ⌜ now (scratch .exit) ≡ ifTaken (numberOf r) (now (scratch .entry)) (splice (now (scratch .entry)) 0 (now (joints .entry))) ⌝ }
+    ensures slopes { λ r. ⌜ now (slopes .exit) ≡ ifTaken (numberOf r) (now (slopes .entry)) (splice (now (slopes .entry)) 0 (finiteDiffSlopesOf state strict (now (joints .entry)))) ⌝ }
+{
+    let picks = Picks { strict: strict };
+    gradient_by(Rule::WeightedSum, state, picks, joints, scratch, slopes)
 }

@@ -8,6 +8,7 @@ use calls::value;
 use gradient::slopes::Rule;
 use objective_master::weights;
 use task::lay;
+use task::picks::Picks;
 ghost use mathlib.Core.Path.{_≡_};
 ghost use lib.ListN.{length};
 ghost use Rattle.lists.specs.Lent.{lent};
@@ -69,13 +70,14 @@ pub(crate) fn objective_on(
     codes: &[u16],
     floats: &[f64],
     task: &[f64],
+    picks: Picks,
     has_goals: bool,
     started: bool,
     joints: &[f64],
 ) -> Answer
     requires { ⌜ Arrays (now sizes) (now codes) (now floats) (now task) ⌝ }
     ensures number { λ r. ⌜ numberOf r ≡ objectiveStored (lent sizes) (lent codes) «has_goals» started (lent joints) ⌝ }
-    ensures value { λ r. ⌜ answerValue r ≡ valueIf (numberOf r) (valueStored (lent sizes) (lent codes) (lent floats) (lent task) (lent joints)) ⌝ }
+    ensures value { λ r. ⌜ answerValue r ≡ valueIf (numberOf r) (valueStored (lent sizes) (lent codes) (lent floats) (lent task) picks (lent joints)) ⌝ }
     ensures case { λ r. ⌜ r ≡ answerOf (numberOf r) (answerValue r) ⌝ }
 {
     let n = state::in_use(sizes, codes);
@@ -91,6 +93,7 @@ pub(crate) fn objective_on(
         &codes[..links],
         &floats[..wide],
         task,
+        picks,
         joints,
     )
 }
@@ -101,6 +104,7 @@ pub(crate) fn gradient_on(
     codes: &[u16],
     floats: &[f64],
     task: &[f64],
+    picks: Picks,
     has_goals: bool,
     started: bool,
     joints: &[f64],
@@ -109,10 +113,10 @@ pub(crate) fn gradient_on(
 ) -> Answer
     requires { ⌜ Arrays (now sizes) (now codes) (now floats) (now task) ⌝ }
     ensures number { λ r. ⌜ numberOf r ≡ slopesStored (lent sizes) (lent codes) «has_goals» started (lent joints) (length (lent scratch)) (length (lent slopes)) ⌝ }
-    ensures value { λ r. ⌜ answerValue r ≡ valueIf (numberOf r) (valueStored (lent sizes) (lent codes) (lent floats) (lent task) (lent joints)) ⌝ }
+    ensures value { λ r. ⌜ answerValue r ≡ valueIf (numberOf r) (valueStored (lent sizes) (lent codes) (lent floats) (lent task) picks (lent joints)) ⌝ }
     ensures case { λ r. ⌜ r ≡ answerOf (numberOf r) (answerValue r) ⌝ }
     ensures scratch { λ r. ⌜ FrontIfTaken (numberOf r) scratch (lent joints) ⌝ }
-    ensures slopes { λ r. ⌜ FrontIfTaken (numberOf r) slopes (slopesOf rule (givenStored (lent sizes) (lent codes) (lent task)) (floatsUsed (lent sizes) (lent floats)) (lent joints)) ⌝ }
+    ensures slopes { λ r. ⌜ FrontIfTaken (numberOf r) slopes (slopesOf rule (givenStored (lent sizes) (lent codes) (lent task) picks) (floatsUsed (lent sizes) (lent floats)) (lent joints)) ⌝ }
 {
     let n = state::in_use(sizes, codes);
     let number = state_refusal(n.loaded, has_goals, started);
@@ -128,6 +132,7 @@ pub(crate) fn gradient_on(
         &codes[..links],
         &floats[..wide],
         task,
+        picks,
         joints,
         scratch,
         slopes,

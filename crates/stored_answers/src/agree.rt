@@ -31,7 +31,7 @@ pub fn none(s: &[u8], at: usize, number: u32) -> bool
 
 // A number, and an output that is stored as list k.
 pub fn one(s: &[u8], at: usize, number: u32, k: usize, a: &[u8]) -> bool
-    requires { ⌜ (at ≤ 2 ^ 40) × (k ≤ 12) ⌝ }
+    requires { ⌜ (at ≤ 2 ^ 40) × (k ≤ 16) ⌝ }
     ensures { λ r. ⌜ r ≡ answerAgrees (now (s .entry)) at number k (now (a .entry) ∷ []) ⌝ }
 {
     if !none(s, at, number) {
@@ -42,7 +42,7 @@ pub fn one(s: &[u8], at: usize, number: u32, k: usize, a: &[u8]) -> bool
 
 // Outputs that are stored from list k on.
 pub fn two(s: &[u8], at: usize, number: u32, k: usize, a: &[u8], b: &[u8]) -> bool
-    requires { ⌜ (at ≤ 2 ^ 40) × (k ≤ 12) ⌝ }
+    requires { ⌜ (at ≤ 2 ^ 40) × (k ≤ 16) ⌝ }
     ensures { λ r. ⌜ r ≡ answerAgrees (now (s .entry)) at number k (now (a .entry) ∷ now (b .entry) ∷ []) ⌝ }
 {
     if !one(s, at, number, k, a) {
@@ -52,7 +52,7 @@ pub fn two(s: &[u8], at: usize, number: u32, k: usize, a: &[u8], b: &[u8]) -> bo
 }
 
 pub fn three(s: &[u8], at: usize, number: u32, k: usize, a: &[u8], b: &[u8], c: &[u8]) -> bool
-    requires { ⌜ (at ≤ 2 ^ 40) × (k ≤ 12) ⌝ }
+    requires { ⌜ (at ≤ 2 ^ 40) × (k ≤ 16) ⌝ }
     ensures { λ r. ⌜ r ≡ answerAgrees (now (s .entry)) at number k (now (a .entry) ∷ now (b .entry) ∷ now (c .entry) ∷ []) ⌝ }
 {
     if !two(s, at, number, k, a, b) {
@@ -72,7 +72,7 @@ pub fn five(
     d: &[u8],
     e: &[u8],
 ) -> bool
-    requires { ⌜ (at ≤ 2 ^ 40) × (k ≤ 12) ⌝ }
+    requires { ⌜ (at ≤ 2 ^ 40) × (k ≤ 16) ⌝ }
     ensures { λ r. ⌜ r ≡ answerAgrees (now (s .entry)) at number k (now (a .entry) ∷ now (b .entry) ∷ now (c .entry) ∷ now (d .entry) ∷ now (e .entry) ∷ []) ⌝ }
 {
     if !three(s, at, number, k, a, b, c) {

@@ -9,6 +9,7 @@ use lib.ListN.{length, take, drop, length-drop, take-append-drop}
 use lib.Seq.{length-take-le, take-append-le, drop-append-le, drop-at, drop-drop}
 use Rattle.lists.specs.Splice.{splice, length-splice}
 use Rattle.sheet.specs.Chain.{joints}
+use Rattle.task.specs.declared.picks.Picks.{Picks}
 use Rattle.task.specs.Task.{part, taskLength, Given, givenOf}
 
 -- the lists apart
@@ -61,8 +62,8 @@ pub record Full (ns cs : List ℕ) (a : Apart) : Type 0 where
   pub tools : 8 * length ns ≤ length (a .tools)
 
 -- what the objectives look at, of the lists apart: of each its front in use
-unfoldable pub givenApart : List ℕ → List ℕ → Apart → Given
-givenApart ns cs a =
+unfoldable pub givenApart : List ℕ → List ℕ → Apart → Picks → Given
+givenApart ns cs a picks =
     record {
       counts = ns;
       codes = cs;
@@ -73,6 +74,7 @@ givenApart ns cs a =
       «prev_state» = take (joints cs) (a .«prev_state»);
       «prev_state2» = take (joints cs) (a .«prev_state2»);
       tools = take (8 * length ns) (a .tools);
+      picks = picks;
     }
 
 -- ---- laws: a part after a list was written
@@ -188,9 +190,9 @@ module _ (a : Apart) (t : List Float) (whole : length t ≡ taskLength) (fit : F
   after₁ at n h = after₂ at n (omega arith) ∙ part-before t₁ 8 (a .limits) at n h (omega (arith, l₁))
 
   -- what the objectives look at, of a list that was laid
-  pub laid-given : (ns cs : List ℕ) → Full ns cs a → length ns ≤ 4 → joints cs ≤ 16 → givenOf ns cs (laid a t) ≡ givenApart ns cs a
+  pub laid-given : (ns cs : List ℕ) (picks : Picks) → Full ns cs a → length ns ≤ 4 → joints cs ≤ 16 → givenOf ns cs (laid a t) picks ≡ givenApart ns cs a picks
   unfolding givenOf givenApart t₁ t₂ t₃ t₄ t₅ t₆ t₇
-  laid-given ns cs full few moving =
+  laid-given ns cs picks full few moving =
       let n : ℕ = joints cs in
       let e₁ : part 0 8 (laid a t) ≡ take 8 (a .weights) = after₁ 0 8 (omega arith) ∙ part-own t 0 (a .weights) 8 (omega arith) (omega arith) in
       let e₂ : part 8 (2 * n) (laid a t) ≡ take (2 * n) (a .limits) = after₂ 8 (2 * n) (omega arith) ∙ part-own t₁ 8 (a .limits) (2 * n) (omega (arith, l₁)) (omega arith) in

@@ -7,6 +7,7 @@ use lib.Ieee.{Float}
 use lib.ListN.{length, take, drop, length-take, length-drop}
 use Rattle.lists.specs.Lent.{LentList, lent}
 use Rattle.sheet.specs.Chain.{joints}
+use Rattle.task.specs.declared.picks.Picks.{Picks}
 
 -- n floats from a place on
 unfoldable pub part : ℕ → ℕ → List Float → List Float
@@ -38,7 +39,7 @@ toolsOf c task = part 140 (8 * c) task
 abbrev pub taskLength : ℕ
 taskLength = 172
 
--- what the objectives look at beside poses and joints: links per chain, codes, weights, limits, goals, the three newest joint blocks of the history, and tools
+-- what the objectives look at beside poses and joints: links per chain, codes, weights, limits, goals, the three newest joint blocks of the history, tools, and what the caller picked
 pub record Given : Type 0 where
   pub counts : List ℕ
   pub codes : List ℕ
@@ -49,10 +50,11 @@ pub record Given : Type 0 where
   pub «prev_state» : List Float
   pub «prev_state2» : List Float
   pub tools : List Float
+  pub picks : Picks
 
 -- of the list
-unfoldable pub givenOf : List ℕ → List ℕ → List Float → Given
-givenOf ns cs task =
+unfoldable pub givenOf : List ℕ → List ℕ → List Float → Picks → Given
+givenOf ns cs task picks =
     record {
       counts = ns;
       codes = cs;
@@ -63,11 +65,12 @@ givenOf ns cs task =
       «prev_state» = prevStateOf (joints cs) task;
       «prev_state2» = prevState2Of (joints cs) task;
       tools = toolsOf (length ns) task;
+      picks = picks;
     }
 
 -- ---- of a function's parameters
-abbrev pub givenIn : {X Y Z : Type 0} → LentList ℕ X → LentList ℕ Y → LentList Float Z → Given
-givenIn counts codes task = givenOf (lent counts) (lent codes) (lent task)
+abbrev pub givenIn : {X Y Z : Type 0} → LentList ℕ X → LentList ℕ Y → LentList Float Z → Picks → Given
+givenIn counts codes task picks = givenOf (lent counts) (lent codes) (lent task) picks
 
 -- ---- laws
 module _ (at n : ℕ) (task : List Float) where

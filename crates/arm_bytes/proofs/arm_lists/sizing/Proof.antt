@@ -17,13 +17,13 @@ abbrev S : tie.After-sizing → tie.Start
 S c = c .before .before .before .before .before
 
 planned : (c : tie.After-p) → (sizingRefusal (now (S (c .before .before) .args .sizes)) (now (S (c .before .before) .args .codes)) (now (S (c .before .before) .args .floats)) ≡ 0)
-    × (c .p .given .0 .0 ≡ sheetPlan (now (S (c .before .before) .args .sizes)) (now (S (c .before .before) .args .codes)))
-planned c = planned-is _ _ _ _ (sym (c .before .before .sizing .ensures) ∙ c .p .given .1)
+    × (c .p .given .0 .0 ≡ sheetPlan (S (c .before .before) .args .picks) (now (S (c .before .before) .args .sizes)) (now (S (c .before .before) .args .codes)))
+planned c = planned-is _ _ _ _ _ (sym (c .before .before .sizing .ensures) ∙ c .p .given .1)
 
 put-plan-requires : tie.Need-put-plan-requires
 put-plan-requires c κs =
     let a = planned (c .before .before) in
-    subst Small (sym (a .1)) (plan-small _ _ _ (a .0))
+    subst Small (sym (a .1)) (plan-small _ _ _ _ (a .0))
 
 returns : tie.Need-returns
 unfolding sizingNumber planNumbers
@@ -39,7 +39,7 @@ returns-2 : tie.Need-returns-2
 unfolding sizingNumber
 returns-2 c =
     let n = c .before .number .given .0 .0 in
-    let a = refused-is _ _ _ n (sym (c .before .before .before .sizing .ensures) ∙ c .before .number .given .1) in
+    let a = refused-is _ _ _ _ n (sym (c .before .before .before .sizing .ensures) ∙ c .before .number .given .1) in
     (a .1 ∙ sym (first-some _ _ (λ z. a .0 (a .1 ∙ z))), sym (refused n _ _ (a .0)))
 
 pub sizing-spec : {M : Type 1} → statement M

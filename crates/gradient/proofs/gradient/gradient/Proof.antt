@@ -57,14 +57,14 @@ returns c =
     let T = now (a .task) in
     let gs = now (a .floats) in
     let x = now (a .joints) in
-    let G : Given = givenOf ns cs T in
+    let G : Given = givenOf ns cs T (a .picks) in
     let f = c .before .before .before .before .before .before .before .before .before .copy-floats in
     let t = c .before .before .before .before .gradient-on in
     let e : take (length x) (f .last .1 .0) ≡ x = copied-front (now (a .scratch)) x (f .last .1 .0) (f .ensures) in (
       t .ensures .0 ∙ ap (valueAt G gs) e,
       (
         t .ensures .1 .0 ∙ ap (λ (y : List Float). splice (now (a .slopes)) 0 (slopesOf (a .rule) G gs y)) e,
-        front-kept (now (a .scratch)) x (f .last .1 .0) (t .last .1 .1 .1 .1 .1 .0) (f .ensures) (t .ensures .1 .1),
+        front-kept (now (a .scratch)) x (f .last .1 .0) (t .last .1 .1 .1 .1 .1 .1 .0) (f .ensures) (t .ensures .1 .1),
       ),
     )
 

@@ -15,12 +15,12 @@ use Rattle.gradient.proofs.value.value_of.Reads as value-of-reads
 use Rattle.objective_master.proofs.relaxed_ik.relaxed_ik.Reads as relaxed-ik-reads
 
 -- the kinds stand in front of their list
-listed : (c : tie.After-relaxed-ik) → KindsListed (now (c .before .before .before .before .before .before .before .before .args .counts)) (now (c .before .before .before .before .before .before .before .before .args .codes)) (c .relaxed-ik .last .1 .1 .0) (c .relaxed-ik .result)
+listed : (c : tie.After-relaxed-ik) → KindsListed (c .before .before .before .before .before .before .before .before .args .picks) (now (c .before .before .before .before .before .before .before .before .args .counts)) (now (c .before .before .before .before .before .before .before .before .args .codes)) (c .relaxed-ik .last .1 .1 .1 .0) (c .relaxed-ik .result)
 listed c =
     let s = c .before .before .before .before .before .before .before .before in
     let a = s .args in
     let k = c .relaxed-ik in
-    kinds-listed (now (a .counts)) (now (a .codes)) (now (a .task)) (now (a .floats)) (now (a .scratch)) (s .pre .0) _ _ _ (k .kept .1 .1 .0) (k .ensures .0) (k .ensures .1)
+    kinds-listed (now (a .counts)) (now (a .codes)) (now (a .task)) (a .picks) (now (a .floats)) (now (a .scratch)) (s .pre .0) _ _ _ (k .kept .1 .1 .1 .0) (k .ensures .0) (k .ensures .1)
 
 slice-aggregate-relaxed-ik : tie.Need-slice-aggregate-relaxed-ik
 slice-aggregate-relaxed-ik c = search needs
@@ -35,7 +35,7 @@ relaxed-ik-requires c κs =
     let gs = now (a .floats) in
     let x = now (a .scratch) in
     let r = s .pre .0 in
-    ((r .paired .counted, r .sheet .chains), omega (arith, kinds-most ns cs T gs x r, kinds-length ns cs))
+    ((r .paired .counted, r .sheet .chains), omega (arith, kinds-most ns cs T (a .picks) gs x r, kinds-length (a .picks) ns cs))
 
 array-share-prefix-list : tie.Need-array-share-prefix-list
 array-share-prefix-list c = listed (c .before .before) .within
@@ -82,16 +82,16 @@ put-gradient-requires c κs =
     let T = now (a .task) in
     let gs = now (a .floats) in
     let x = now (a .scratch) in
-    let G : Given = givenOf ns cs T in
+    let G : Given = givenOf ns cs T (a .picks) in
     let r = s .pre .0 in
-    let m = ap length (listed k .front) ∙ kinds-length ns cs in (
+    let m = ap length (listed k .front) ∙ kinds-length (a .picks) ns cs in (
       (r, s .pre .1),
       record {
         kinds = listed k .front;
         value = v .ensures .0;
-        losses = losses-front G gs x _ (v .last .1 .1 .1 .1 .1 .1 .1 .0) _ m (v .ensures .1);
-        first = omega (arith, listed k .few, v .kept .1 .1 .1 .1 .1 .1 .1 .0);
-        poses = omega (arith, r .sheet .links, v .kept .1 .1 .1 .1 .1 .1 .0);
+        losses = losses-front G gs x _ (v .last .1 .1 .1 .1 .1 .1 .1 .1 .0) _ m (v .ensures .1);
+        first = omega (arith, listed k .few, v .kept .1 .1 .1 .1 .1 .1 .1 .1 .0);
+        poses = omega (arith, r .sheet .links, v .kept .1 .1 .1 .1 .1 .1 .1 .0);
         again = omega (arith, listed k .few);
       },
     )

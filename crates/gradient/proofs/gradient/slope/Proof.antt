@@ -79,18 +79,18 @@ returns c =
     let T = now (a .task) in
     let gs = now (a .floats) in
     let x = now (a .scratch) in
-    let G : Given = givenOf ns cs T in
+    let G : Given = givenOf ns cs T (a .picks) in
     let j = a .asked .joint in
     let R = a .asked .rule in
     let h = c .before .before .before .before .before .before .before .before .before .before .before .before .before .step in
     let f = c .before .before .before .before .before .before .before .before .before .losses-of in
     let k = s .pre .1 in
-    let hs = f .last .1 .1 .1 .1 .1 .1 .0 in
+    let hs = f .last .1 .1 .1 .1 .1 .1 .1 .0 in
     let ks = now (a .kinds) in
     let n = as-many G gs x ks (k .kinds) in
     let at : hs ≡ splice (now (a .f-hs)) 0 (lossesAt G gs (raisedBy (stepOf R) x j)) = f .ensures ∙ ap (λ (v : Float). splice (now (a .f-hs)) 0 (lossesAt G gs (raisedBy v x j))) (h .ensures) in (
       c .before .before .slope .ensures ∙ ap (λ (ws : List Float). slopeBy R ws ks (a .asked .«f_0») (now (a .f-0s)) hs) (c .before .before .before .before .weights .ensures .0)
-          ∙ slope-made G gs x ks (k .kinds) R j (a .asked .«f_0») (now (a .f-0s)) hs (k .value) (k .losses) (omega (arith, k .again, f .kept .1 .1 .1 .1 .1 .1 .0)) (losses-front G gs (raisedBy (stepOf R) x j) (now (a .f-hs)) hs (length ks) n at),
+          ∙ slope-made G gs x ks (k .kinds) R j (a .asked .«f_0») (now (a .f-0s)) hs (k .value) (k .losses) (omega (arith, k .again, f .kept .1 .1 .1 .1 .1 .1 .1 .0)) (losses-front G gs (raisedBy (stepOf R) x j) (now (a .f-hs)) hs (length ks) n at),
       put-back (h .result) x j,
     )
 

@@ -26,8 +26,8 @@ put-losses-requires c κs =
     let gs = now (a .floats) in
     let x = now (a .x) in
     let ps = f .last .1 .1 .1 .1 .0 in (
-      lent-whole ns cs T gs x (s .pre .0) ps (omega (arith, s .pre .1, f .kept .1 .1 .1 .1 .0)),
-      cached-whole ns cs T gs x (s .pre .0) (viewOf ps ps 0 (length cs)) (now (a .out)) (s .pre .1 .1),
+      lent-whole ns cs T (a .picks) gs x (s .pre .0) ps (omega (arith, s .pre .1, f .kept .1 .1 .1 .1 .0)),
+      cached-whole ns cs T (a .picks) gs x (s .pre .0) (viewOf ps ps 0 (length cs)) (now (a .out)) (s .pre .1 .1),
     )
 
 same-length : tie.Need-same-length
@@ -47,7 +47,7 @@ returns c =
     let gs = now (a .floats) in
     let x = now (a .x) in
     c .before .before .put-losses .ensures
-    ∙ ap (splice (now (a .out)) 0) (losses-walked ns cs T gs x (s .pre .0) (now (a .poses)) (f .last .1 .1 .1 .1 .0) (s .pre .1 .0) (f .ensures))
+    ∙ ap (splice (now (a .out)) 0) (losses-walked ns cs T (a .picks) gs x (s .pre .0) (now (a .poses)) (f .last .1 .1 .1 .1 .0) (s .pre .1 .0) (f .ensures))
 
 pub losses-of-spec : {M : Type 1} → statement M
 losses-of-spec =

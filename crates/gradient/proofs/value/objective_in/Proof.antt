@@ -13,12 +13,12 @@ abbrev S : tie.After-relaxed-ik → tie.Start
 S c = c .before .before .before .before .before .before .before .before
 
 -- the kinds stand in front of their list
-listed : (c : tie.After-relaxed-ik) → KindsListed (now (S c .args .counts)) (now (S c .args .codes)) (c .relaxed-ik .last .1 .1 .0) (c .relaxed-ik .result)
+listed : (c : tie.After-relaxed-ik) → KindsListed (S c .args .picks) (now (S c .args .counts)) (now (S c .args .codes)) (c .relaxed-ik .last .1 .1 .1 .0) (c .relaxed-ik .result)
 listed c =
     let s = S c in
     let a = s .args in
     let k = c .relaxed-ik in
-    kinds-listed (now (a .counts)) (now (a .codes)) (now (a .task)) (now (a .floats)) (now (a .x)) (s .pre .0) _ _ _ (k .kept .1 .1 .0) (k .ensures .0) (k .ensures .1)
+    kinds-listed (now (a .counts)) (now (a .codes)) (now (a .task)) (a .picks) (now (a .floats)) (now (a .x)) (s .pre .0) _ _ _ (k .kept .1 .1 .1 .0) (k .ensures .0) (k .ensures .1)
 
 slice-aggregate-relaxed-ik : tie.Need-slice-aggregate-relaxed-ik
 slice-aggregate-relaxed-ik c = search needs
@@ -30,7 +30,7 @@ relaxed-ik-requires c κs =
     let ns = now (a .counts) in
     let cs = now (a .codes) in
     let r = s .pre .0 in
-    ((r .paired .counted, r .sheet .chains), omega (arith, kinds-most ns cs (now (a .task)) (now (a .floats)) (now (a .x)) r, kinds-length ns cs))
+    ((r .paired .counted, r .sheet .chains), omega (arith, kinds-most ns cs (now (a .task)) (a .picks) (now (a .floats)) (now (a .x)) r, kinds-length (a .picks) ns cs))
 
 array-share-prefix-kinds : tie.Need-array-share-prefix-kinds
 array-share-prefix-kinds c = listed (c .before) .within

@@ -44,10 +44,10 @@ returns c =
     let T = now (a .task) in
     let gs = now (a .floats) in
     let x = now (a .x) in
-    let out = f .last .1 .1 .1 .1 .1 .1 .0 in (
+    let out = f .last .1 .1 .1 .1 .1 .1 .1 .0 in (
       c .weighted-sum .ensures
           ∙ ap (λ (ws : List Float). weightedBy ws (now (a .kinds)) out) (c .before .before .weights .ensures .0)
-          ∙ value-made (givenOf ns cs T) gs x (now (a .kinds)) (s .pre .0 .1) (now (a .out)) out (s .pre .1 .1) (f .ensures),
+          ∙ value-made (givenOf ns cs T (a .picks)) gs x (now (a .kinds)) (s .pre .0 .1) (now (a .out)) out (s .pre .1 .1) (f .ensures),
       f .ensures,
     )
 

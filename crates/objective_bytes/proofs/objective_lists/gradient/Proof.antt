@@ -55,7 +55,7 @@ put-answers-requires : tie.Need-put-answers-requires
 put-answers-requires c κs =
     let t = fitted (c .before .before .before .before .before .before .before .before .before .before) in
     let g = c .before .before .before .before .before .before .before .slopes-on in
-    ((omega (arith, t .few, g .kept .1 .1 .1 .1 .1 .1 .1 .1 .1 .1 .0), omega (arith, t .few, g .kept .1 .1 .1 .1 .1 .1 .1 .1 .1 .1 .1 .0)), (t .scratch, t .value, t .slopes))
+    ((omega (arith, t .few, g .kept .1 .1 .1 .1 .1 .1 .1 .1 .1 .1 .1 .0), omega (arith, t .few, g .kept .1 .1 .1 .1 .1 .1 .1 .1 .1 .1 .1 .1 .0)), (t .scratch, t .value, t .slopes))
 
 same-length : tie.Need-same-length
 same-length c = search needs
@@ -73,7 +73,7 @@ returns-2 c =
     let x = now (a .joints) in
     let g = c .before .before .before .before .before .before .before .before .before .before .before .before .before .before .slopes-on .ensures in
     let p = c .before .before .before .before .before .before .put-answers .ensures in
-    let l = slopes-in-length (a .rule) (sheet (S e)) (task (S e)) x in (
+    let l = slopes-in-length (a .rule) (sheet (S e)) (task (S e)) (a .picks) x in (
       sym (sym (e .before .slopes-number .ensures) ∙ e .if1 .left),
       (
         p .0 ∙ ap (λ (y : List Float). splice (now (a .scratch)) 0 (bytesOf y)) (front _ _ x (length x) (g .1 .1) refl) ∙ sym (taken 0 _ _ refl),

@@ -66,7 +66,7 @@ returns : tie.Need-returns
 unfolding valueIn slopesIn
 returns c =
     let s = c .before .before .before .before .before .before .before .before .before .before .before .before .before .before .before .before .before .before .before .before .before .before .before in
-    let g = laid-taken (sheet s) _ _ (known s) (four (c .before .before .before .before .before .before .before .before .before .before .before)) _ _ _ (c .before .before .before .before .before .before .before .before .before .before .before .before .links .ensures) refl (c .before .before .before .before .before .before .before .before .before .lay-lent .ensures) in
+    let g = laid-taken (sheet s) _ _ (known s) (four (c .before .before .before .before .before .before .before .before .before .before .before)) _ _ _ _ (c .before .before .before .before .before .before .before .before .before .before .before .before .links .ensures) refl (c .before .before .before .before .before .before .before .before .before .lay-lent .ensures) in
     let e = c .before .before .before .before .gradient .ensures in (
       e .0 ∙ ap (λ g′. valueAt g′ (now (s .args .floats)) (joints s)) g,
       (e .1 .0 ∙ ap (λ g′. splice (now (s .args .slopes)) 0 (slopesOf (s .args .rule) g′ (now (s .args .floats)) (joints s))) g, e .1 .1),

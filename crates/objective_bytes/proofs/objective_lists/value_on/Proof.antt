@@ -56,7 +56,7 @@ unfolding valueIn
 returns c =
     let s = c .before .before .before .before .before .before .before .before .before .before .before .before .before .before .before in
     c .objective .ensures
-    ∙ ap (λ g. valueAt g (now (s .args .floats)) (joints s)) (laid-taken (sheet s) _ _ (known s) (four (c .before .before .before .before .before)) _ _ _ (c .before .before .before .before .before .before .links .ensures) refl (c .before .before .before .lay-lent .ensures))
+    ∙ ap (λ g. valueAt g (now (s .args .floats)) (joints s)) (laid-taken (sheet s) _ _ (known s) (four (c .before .before .before .before .before)) _ _ _ _ (c .before .before .before .before .before .before .links .ensures) refl (c .before .before .before .lay-lent .ensures))
 
 pub value-on-spec : {M : Type 1} → statement M
 value-on-spec =

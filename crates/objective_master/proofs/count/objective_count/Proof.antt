@@ -13,15 +13,16 @@ use Rattle.objective_master.specs.Count.{count-is}
 use Rattle.objective_master.proofs.count.objective_count.Statement.{statement}
 use Rattle.objective_master.proofs.count.objective_count.Tie as tie
 use Rattle.objective_master.proofs.count.pair_count.Reads as pair-count-reads
+use Rattle.objective_master.proofs.relaxed_ik.goals_to.Reads as goals-to-reads
 use Rattle.sheet.proofs.chain.joint_number.Reads as joint-number-reads
 
 abbrev Inv-loop : tie.InvT-loop
-Inv-loop counts codes s₀ l₀ joint₀ c₀ s l joint c =
+Inv-loop counts codes picks s₀ l₀ joint₀ c₀ s l joint c =
     (c ≤ length counts) × (l ≡ chainStart counts c) × (joint ≡ jointOf codes l) × (joint ≤ 16)
     × (s ≡ length (runs (chainPairs firstArm (chainLengths counts codes)) 0 c)) × (s ≤ 256 * c)
 
 abbrev μ-loop : tie.MeasureT-loop
-μ-loop counts codes s₀ l₀ joint₀ c₀ s l joint c = length counts - c
+μ-loop counts codes picks s₀ l₀ joint₀ c₀ s l joint c = length counts - c
 
 abbrev S : tie.At-loop Inv-loop μ-loop → tie.Start Inv-loop μ-loop
 S l = l .before .before .before
@@ -101,27 +102,29 @@ loop-again c =
       omega (arith, c .pair-count .ensures .1, i .5),
     )
 
-mul-result : tie.Need-mul-result Inv-loop μ-loop
-mul-result c = omega arith
+goals-to-requires : tie.Need-goals-to-requires Inv-loop μ-loop
+goals-to-requires c κs = S (c .before) .pre .1
 
 add-result : tie.Need-add-result Inv-loop μ-loop
-add-result c = omega arith
+add-result c = omega (arith, c .goals-to .ensures .1)
 
 add-result-2 : tie.Need-add-result-2 Inv-loop μ-loop
-add-result-2 c = omega arith
+add-result-2 c = omega (arith, c .goals-to .ensures .1)
 
 add-result-3 : tie.Need-add-result-3 Inv-loop μ-loop
-add-result-3 c = omega arith
+add-result-3 c = omega (arith, c .goals-to .ensures .1)
 
 returns : tie.Need-returns Inv-loop μ-loop
 returns c =
-    let l = c .before in
+    let l = c .before .before in
     let s = S l in
     let ns = now (s .args .counts) in
     let cs = now (s .args .codes) in
     let i = l .loop .inv in
-    let e : l .loop .c ≡ length ns = omega arith in
-    count-is ns cs (l .loop .joint) (l .loop .s) (s .pre .0 .whole) (i .2 ∙ ap (jointOf cs) (i .1 ∙ ap (chainStart ns) e)) (i .4 ∙ ap (λ (k : ℕ). length (runs (chainPairs firstArm (chainLengths ns cs)) 0 k)) e)
+    let e : l .loop .c ≡ length ns = omega (arith, c .before) in
+    ap (λ (k : ℕ). k + l .loop .joint + 4 + l .loop .s) (c .goals-to .ensures .0)
+    ∙ count-is (s .args .picks) ns cs (l .loop .joint) (l .loop .s) (s .pre .0 .whole) (i .2 ∙ ap (jointOf cs) (i .1 ∙ ap (chainStart ns) e))
+    (i .4 ∙ ap (λ (k : ℕ). length (runs (chainPairs firstArm (chainLengths ns cs)) 0 k)) e)
 
 pub objective-count-spec : {M : Type 1} → statement M
 objective-count-spec =
@@ -141,7 +144,7 @@ objective-count-spec =
     add-c
     loop-less
     loop-again
-    mul-result
+    goals-to-requires
     add-result
     add-result-2
     add-result-3

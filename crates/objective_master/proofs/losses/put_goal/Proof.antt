@@ -1,11 +1,9 @@
 -- `put_goal` meets its contract: stored, or standing already.
 use mathlib.Core.Path.{sym, ap, _∙_}
-use Prim.Native.Nat.{_*_}
 use denote.Ref.{now}
 use Rattle.geometry.specs.declared.pose.Pose.{Pose}
 use Rattle.lists.specs.Splice.{splice}
 use Rattle.spacetime.specs.Tool.{tipOf}
-use Rattle.objective_master.specs.Objective.{goalWidth}
 use Rattle.objective_master.specs.Losses.{poseLosses}
 use borrow.Author.Needs.{needs}
 use Rattle.objective_master.proofs.losses.put_goal.Statement.{statement}
@@ -23,9 +21,6 @@ pose-requires c κs = search needs
 tip-requires : tie.Need-tip-requires
 tip-requires c κs = search needs
 
-mul-put-pose-losses : tie.Need-mul-put-pose-losses
-mul-put-pose-losses c = search needs
-
 put-pose-losses-requires : tie.Need-put-pose-losses-requires
 put-pose-losses-requires c κs = search needs
 
@@ -36,7 +31,7 @@ returns : tie.Need-returns
 returns c =
     let a = c .before .before .before .before .before .before .before .before .before .before .before .before .before .args in
     c .before .before .put-pose-losses .ensures
-    ∙ ap (λ (p : Pose). splice (now (a .out)) (goalWidth * a .c) (poseLosses (now (a .goals)) (a .c) p))
+    ∙ ap (λ (p : Pose). splice (now (a .out)) (a .at) (poseLosses (a .picks .strict) (now (a .goals)) (a .c) p))
     (c .before .before .before .before .tip .ensures ∙ ap (tipOf (now (a .tools)) (a .c)) (c .before .before .before .before .before .pose .ensures))
 
 returns-2 : tie.Need-returns-2
@@ -49,7 +44,6 @@ put-goal-spec =
     walked-again-requires
     pose-requires
     tip-requires
-    mul-put-pose-losses
     put-pose-losses-requires
     same-length
     returns

@@ -2,6 +2,7 @@
 use mathlib.Core.Path.{_≡_, refl, sym, ap, _∙_}
 use mathlib.Core.List.{List}
 use Prim.Native.Nat.{ℕ, _+_, _-_, _*_, _≤_, _<_}
+use native.Mathlib.Nat.{suc-mul, mul-le-mul-right}
 use native.Mathlib.Omega.{arith}
 use denote.Ref.{now}
 use lib.Ieee.{Float}
@@ -18,14 +19,15 @@ use Rattle.objective_master.specs.Cached.{endAgain, piece-turn, goal-is,
 use Rattle.objective_master.proofs.losses.put_goals.Statement.{statement}
 use Rattle.objective_master.proofs.losses.put_goals.Tie as tie
 use Rattle.objective_master.proofs.losses.put_goal.Reads as put-goal-reads
+use Rattle.objective_master.proofs.relaxed_ik.goals_to.Reads as goals-to-reads
 
 abbrev Inv-loop : tie.InvT-loop
-Inv-loop counts goals tools base tail from to out₀ l₀ c₀ out l c =
+Inv-loop counts goals tools base tail walked picks out₀ l₀ c₀ out l c =
     (c ≤ length counts) × (l ≡ chainStart counts c) × (length out ≡ length out₀)
-    × (out ≡ splice out₀ 0 (runs (goalLosses counts goals tools (viewOf base tail from to)) 0 c))
+    × (out ≡ splice out₀ 0 (runs (goalLosses (picks .strict) counts goals tools (viewOf base tail (walked .from) (walked .to))) 0 c))
 
 abbrev μ-loop : tie.MeasureT-loop
-μ-loop counts goals tools base tail from to out₀ l₀ c₀ out l c = length counts - c
+μ-loop counts goals tools base tail walked picks out₀ l₀ c₀ out l c = length counts - c
 
 abbrev S : tie.After-shared-slice-known6 Inv-loop μ-loop → tie.Start Inv-loop μ-loop
 S c = c .before .before .before .before .before .before .before .before .before
@@ -38,7 +40,7 @@ some c = S c .pre .0 .0 .some (c .before .before .loop .c) (omega arith)
 
 loop-holds : tie.Need-loop-holds Inv-loop μ-loop
 unfolding chainStart
-loop-holds c = (omega arith, refl, refl, splice-none (goalLosses _ _ _ _) _ 0 0)
+loop-holds c = (omega arith, refl, refl, splice-none (goalLosses _ _ _ _ _) _ 0 0)
 
 mul-end : tie.Need-mul-end Inv-loop μ-loop
 mul-end c = omega arith
@@ -52,27 +54,42 @@ cast-end c = omega (arith, c .shared-slice-known6 .given (c .before .before .loo
 add-end : tie.Need-add-end Inv-loop μ-loop
 add-end c = omega (arith, within c)
 
+goals-to-requires : tie.Need-goals-to-requires Inv-loop μ-loop
+goals-to-requires c κs = omega (arith, S c .pre .0 .0 .few)
+
 sub-put-goal : tie.Need-sub-put-goal Inv-loop μ-loop
-sub-put-goal c = omega (arith, some c)
+sub-put-goal c = omega (arith, some (c .before))
+
+-- a chain's losses end within those of all
+fits : (w n k : ℕ) → k < n → (k + 1) * w ≤ n * w
+fits w n k h = omega (arith, suc-mul k w, mul-le-mul-right w h)
 
 put-goal-requires : tie.Need-put-goal-requires Inv-loop μ-loop
 put-goal-requires c κs =
-    let k = c .before in
+    let g = c .before in
+    let k = g .before in
     let l = k .before .before in
     let s = l .before .before .before .before .before .before .before in
     let a = s .args in
     let ns = now (a .counts) in
     let G = now (a .goals) in
     let T = now (a .tools) in
-    let P : ℕ → Pose = viewOf (now (a .base)) (now (a .tail)) (a .from) (a .to) in
+    let W = a .walked in
+    let strict = a .picks .strict in
+    let w = goalWidth strict in
+    let P : ℕ → Pose = viewOf (now (a .base)) (now (a .tail)) (W .from) (W .to) in
     let r = s .pre .1 .1 in
-    let v = s .pre .1 .0 in (
+    let v = s .pre .1 .0 in
+    let i = l .loop .c in
+    let at = g .goals-to .result in
+    let e : at ≡ i * w = g .goals-to .ensures .0 in
+    let fit : (i + 1) * w ≤ length ns * w = fits w (length ns) i (omega arith) in
+    let z : (i + 1) * w ≡ i * w + w = omega arith in (
       (omega (arith, s .pre .0), omega (arith, s .pre .0), omega (arith, r .room, l .loop .inv .2)),
       (
         record { first = omega (arith, v .first, within k, some k); again = v .again },
-        goal-cached ns G T P (a .from) (a .to) (l .loop .c) (l .loop .l) (goalWidth * l .loop .c) (l .loop .out) (l .loop .inv .1)
-            (piece-turn (goalLosses ns G T P) goalWidth (goal-length ns G T P) (endAgain ns (a .from) (a .to)) 0 (length ns) (now (a .out)) (l .loop .out) (l .loop .c) (goalWidth * l .loop .c) r (l .loop .inv .3)
-            (omega arith) (omega arith) (omega arith)),
+        goal-cached strict ns G T P (W .from) (W .to) i (l .loop .l) at (l .loop .out) (l .loop .inv .1)
+            (piece-turn (goalLosses strict ns G T P) w (goal-length strict ns G T P) (endAgain ns (W .from) (W .to)) 0 (length ns) (now (a .out)) (l .loop .out) i at r (l .loop .inv .3) (omega arith) fit (omega (arith, e))),
       ),
     )
 
@@ -85,21 +102,30 @@ loop-less c = omega arith
 loop-again : tie.Need-loop-again Inv-loop μ-loop
 loop-again c =
     let p = c .before .before in
-    let l = p .before .before .before .before in
+    let g = p .before .before in
+    let l = g .before .before .before in
     let s = l .before .before .before .before .before .before .before in
     let a = s .args in
     let ns = now (a .counts) in
-    let f : ℕ → List Float = goalLosses ns (now (a .goals)) (now (a .tools)) (viewOf (now (a .base)) (now (a .tail)) (a .from) (a .to)) in
+    let W = a .walked in
+    let strict = a .picks .strict in
+    let w = goalWidth strict in
+    let P : ℕ → Pose = viewOf (now (a .base)) (now (a .tail)) (W .from) (W .to) in
+    let f : ℕ → List Float = goalLosses strict ns (now (a .goals)) (now (a .tools)) P in
     let k = l .loop .c in
-    let e : p .put-goal .last .1 .1 .1 .1 .1 .1 .1 .1 .0 ≡ splice (l .loop .out) (goalWidth * k) (f k) =
-    p .put-goal .ensures ∙ ap (splice (l .loop .out) (goalWidth * k)) (goal-is ns (now (a .goals)) (now (a .tools)) (viewOf (now (a .base)) (now (a .tail)) (a .from) (a .to)) k (l .loop .l) (l .loop .inv .1)) in
-    let n : length (runs f 0 k) ≡ k * goalWidth = length-runs f goalWidth (goal-length _ _ _ _) 0 k in
-    let wide : length (f k) ≡ goalWidth = goal-length _ _ _ _ k in
+    let at = g .goals-to .result in
+    let q : at ≡ k * w = g .goals-to .ensures .0 in
+    let e : p .put-goal .last .1 .1 .1 .1 .1 .1 .1 .1 .1 .0 ≡ splice (l .loop .out) at (f k) =
+    p .put-goal .ensures ∙ ap (splice (l .loop .out) at) (goal-is strict ns (now (a .goals)) (now (a .tools)) P k (l .loop .l) (l .loop .inv .1)) in
+    let n : length (runs f 0 k) ≡ k * w = length-runs f w (goal-length strict ns (now (a .goals)) (now (a .tools)) P) 0 k in
+    let wide : length (f k) ≡ w = goal-length strict ns (now (a .goals)) (now (a .tools)) P k in
+    let fit : (k + 1) * w ≤ length ns * w = fits w (length ns) k (omega arith) in
+    let z : (k + 1) * w ≡ k * w + w = omega arith in
     let room = s .pre .1 .1 .room in (
       omega arith,
       ap (λ (m : ℕ). m + getD ns k 0) (l .loop .inv .1) ∙ sym (chain-start-next ns k),
-      ap length e ∙ length-splice (l .loop .out) (goalWidth * k) (f k) (omega (arith, room, l .loop .inv .2)) ∙ l .loop .inv .2,
-      splice-turn-at f (now (a .out)) (l .loop .out) _ 0 (goalWidth * k) k (l .loop .inv .3) (omega arith) (omega (arith, room)) e,
+      ap length e ∙ length-splice (l .loop .out) at (f k) (omega (arith, room, l .loop .inv .2)) ∙ l .loop .inv .2,
+      splice-turn-at f (now (a .out)) (l .loop .out) _ 0 at k (l .loop .inv .3) (omega arith) (omega (arith, room)) e,
     )
 
 same-length : tie.Need-same-length Inv-loop μ-loop
@@ -109,7 +135,7 @@ returns : tie.Need-returns Inv-loop μ-loop
 returns c =
     let l = c .before in
     let a = l .before .before .before .before .before .before .before .args in
-    let f : ℕ → List Float = goalLosses (now (a .counts)) (now (a .goals)) (now (a .tools)) (viewOf (now (a .base)) (now (a .tail)) (a .from) (a .to)) in
+    let f : ℕ → List Float = goalLosses (a .picks .strict) (now (a .counts)) (now (a .goals)) (now (a .tools)) (viewOf (now (a .base)) (now (a .tail)) (a .walked .from) (a .walked .to)) in
     let e : l .loop .c ≡ length (now (a .counts)) = omega arith in
     l .loop .inv .3 ∙ ap (λ (k : ℕ). splice (now (a .out)) 0 (runs f 0 k)) e
 
@@ -124,6 +150,7 @@ put-goals-spec =
     shared-slice-read-end
     cast-end
     add-end
+    goals-to-requires
     sub-put-goal
     put-goal-requires
     add-c

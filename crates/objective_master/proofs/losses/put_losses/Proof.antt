@@ -1,5 +1,5 @@
 -- `put_losses` meets its contract: section after section, each behind those before it.
-use mathlib.Core.Path.{_≡_, refl, sym, ap, ap₂, subst, _∙_}
+use mathlib.Core.Path.{_≡_, sym, ap, ap₂, subst, _∙_}
 use mathlib.Core.Bool.{Bool}
 use mathlib.Core.List.{List}
 use Prim.Native.Nat.{ℕ, _+_, _*_}
@@ -21,6 +21,7 @@ use Rattle.objective_master.proofs.losses.put_losses.Statement.{stateme
 use Rattle.objective_master.proofs.losses.put_losses.Tie as tie
 use Rattle.groove.proofs.objective.any_nan.Reads as any-nan-reads
 use Rattle.objective_master.proofs.losses.put_goals.Reads as put-goals-reads
+use Rattle.objective_master.proofs.relaxed_ik.goals_to.Reads as goals-to-reads
 use Rattle.objective_master.proofs.losses.put_limits.Reads as put-limits-reads
 use Rattle.objective_master.proofs.losses.put_motion.Reads as put-motion-reads
 use Rattle.self_collision.proofs.pairs.put_pairs.Reads as put-pairs-reads
@@ -39,7 +40,7 @@ put-goals-requires c κs =
     let s = c .before .before .before .before .before .before .before .before .before .before in
     let a = s .args in
     let ns = now (a .counts) in
-    let G : Given = givenOf ns (now (a .codes)) (now (a .task)) in
+    let G : Given = givenOf ns (now (a .codes)) (now (a .task)) (a .picks) in
     let W = a .walked in
     let P : ℕ → Pose = viewOf (now (a .base)) (now (a .tail)) (W .from) (W .to) in
     let X = now (a .x) in
@@ -51,13 +52,13 @@ put-goals-requires c κs =
       (t .chains, omega (arith, c .before .before .goals .ensures .1), omega (arith, c .before .tools .ensures .1)),
       (
         record { first = omega (arith, t .view .first, w); again = t .view .again },
-        subst (λ (gs : List Float). CachedPieces (goalLosses ns gs (now (c .before .tools .result)) P) goalWidth (endAgain ns (W .from) (W .to)) 0 (length ns) o) (sym (c .before .before .goals .ensures .0))
-            (subst (λ (ts : List Float). CachedPieces (goalLosses ns (G .goals) ts P) goalWidth (endAgain ns (W .from) (W .to)) 0 (length ns) o) (sym (c .before .tools .ensures .0)) (goals-cached G P X (W .from) (W .to) (W .joint) o k w v)),
+        subst (λ (gs : List Float). CachedPieces (goalLosses (a .picks .strict) ns gs (now (c .before .tools .result)) P) (goalWidth (a .picks .strict)) (endAgain ns (W .from) (W .to)) 0 (length ns) o) (sym (c .before .before .goals .ensures .0))
+            (subst (λ (ts : List Float). CachedPieces (goalLosses (a .picks .strict) ns (G .goals) ts P) (goalWidth (a .picks .strict)) (endAgain ns (W .from) (W .to)) 0 (length ns) o) (sym (c .before .tools .ensures .0)) (goals-cached G P X (W .from) (W .to) (W .joint) o k w v)),
       ),
     )
 
-mul-n : tie.Need-mul-n
-mul-n c = search needs
+goals-to-requires : tie.Need-goals-to-requires
+goals-to-requires c κs = search needs
 
 limits-requires : tie.Need-limits-requires
 limits-requires c κs = search needs
@@ -65,10 +66,10 @@ limits-requires c κs = search needs
 put-limits-requires : tie.Need-put-limits-requires
 unfolding givenOf
 put-limits-requires c κs =
-    let s = c .before .before .before .before .before .before .before .before .before .before .before .before .before .before .before in
+    let s = c .before .before .before .before .before .before .before .before .before .before .before .before .before .before .before .before in
     let a = s .args in
     let ns = now (a .counts) in
-    let G : Given = givenOf ns (now (a .codes)) (now (a .task)) in
+    let G : Given = givenOf ns (now (a .codes)) (now (a .task)) (a .picks) in
     let W = a .walked in
     let P : ℕ → Pose = viewOf (now (a .base)) (now (a .tail)) (W .from) (W .to) in
     let X = now (a .x) in
@@ -77,12 +78,14 @@ put-limits-requires c κs =
     let k = s .pre .1 in
     let w = t .paired .counted .whole in
     let v = t .values in
-    let e₁ : c .before .before .before .before .put-goals .last .1 .1 .1 .1 .1 .1 .1 .0 ≡ splice o 0 (runs (goalLosses ns (G .goals) (G .tools) P) 0 (length ns)) =
-    c .before .before .before .before .put-goals .ensures ∙ ap₂ (λ (gs ts : List Float). splice o 0 (runs (goalLosses ns gs ts P) 0 (length ns))) (c .before .before .before .before .before .before .before .goals .ensures .0) (c .before .before .before .before .before .before .tools .ensures .0) in
+    let n : ℕ = c .before .before .goals-to .result in
+    let e : n ≡ length ns * goalWidth (a .picks .strict) = c .before .before .goals-to .ensures .0 in
+    let e₁ : c .before .before .before .before .before .put-goals .last .1 .1 .1 .1 .1 .1 .1 .0 ≡ splice o 0 (runs (goalLosses (a .picks .strict) ns (G .goals) (G .tools) P) 0 (length ns)) =
+    c .before .before .before .before .before .put-goals .ensures ∙ ap₂ (λ (gs ts : List Float). splice o 0 (runs (goalLosses (a .picks .strict) ns gs ts P) 0 (length ns))) (c .before .before .before .before .before .before .before .before .goals .ensures .0) (c .before .before .before .before .before .before .before .tools .ensures .0) in
     let q : now (c .before .limits .result) ≡ G .limits = c .before .limits .ensures .0 ∙ ap (λ (m : ℕ). limitsOf m (now (a .task))) v in (
       omega (arith, c .before .limits .ensures .1),
-      subst (λ (ls : List Float). CachedPieces (limitLosses ls X) 1 (isRaised (W .joint)) (goalWidth * length ns) (length X) (c .before .before .before .before .put-goals .last .1 .1 .1 .1 .1 .1 .1 .0)) (sym q)
-          (limits-cached G P X (W .from) (W .to) (W .joint) o k w v _ (length-one G P X o _ w v (k .room) e₁) (goalWidth * length ns) refl (behind-one G P X o _ w v (k .room) e₁)),
+      subst (λ (ls : List Float). CachedPieces (limitLosses ls X) 1 (isRaised (W .joint)) (n) (length X) (c .before .before .before .before .before .put-goals .last .1 .1 .1 .1 .1 .1 .1 .0)) (sym q)
+          (limits-cached G P X (W .from) (W .to) (W .joint) o k w v _ (length-one G P X o _ w v (k .room) e₁) n e (λ i h. behind-one G P X o _ w v (k .room) e₁ i (omega (arith, e)))),
     )
 
 add-m : tie.Need-add-m
@@ -91,10 +94,10 @@ add-m c = search needs
 put-motion-requires : tie.Need-put-motion-requires
 unfolding givenOf
 put-motion-requires c κs =
-    let s = c .before .before .before .before .before .before .before .before .before .before .before .before .before .before .before .before .before .before .before in
+    let s = c .before .before .before .before .before .before .before .before .before .before .before .before .before .before .before .before .before .before .before .before in
     let a = s .args in
     let ns = now (a .counts) in
-    let G : Given = givenOf ns (now (a .codes)) (now (a .task)) in
+    let G : Given = givenOf ns (now (a .codes)) (now (a .task)) (a .picks) in
     let W = a .walked in
     let P : ℕ → Pose = viewOf (now (a .base)) (now (a .tail)) (W .from) (W .to) in
     let X = now (a .x) in
@@ -103,13 +106,15 @@ put-motion-requires c κs =
     let k = s .pre .1 in
     let w = t .paired .counted .whole in
     let v = t .values in
-    let e₁ : c .before .before .before .before .before .before .before .before .put-goals .last .1 .1 .1 .1 .1 .1 .1 .0 ≡ splice o 0 (runs (goalLosses ns (G .goals) (G .tools) P) 0 (length ns)) =
-    c .before .before .before .before .before .before .before .before .put-goals .ensures ∙ ap₂ (λ (gs ts : List Float). splice o 0 (runs (goalLosses ns gs ts P) 0 (length ns))) (c .before .before .before .before .before .before .before .before .before .before .before .goals .ensures .0) (c .before .before .before .before .before .before .before .before .before .before .tools .ensures .0) in
-    let o₁ : List Float = c .before .before .before .before .before .before .before .before .put-goals .last .1 .1 .1 .1 .1 .1 .1 .0 in
+    let n : ℕ = c .before .before .before .before .before .before .goals-to .result in
+    let e : n ≡ length ns * goalWidth (a .picks .strict) = c .before .before .before .before .before .before .goals-to .ensures .0 in
+    let e₁ : c .before .before .before .before .before .before .before .before .before .put-goals .last .1 .1 .1 .1 .1 .1 .1 .0 ≡ splice o 0 (runs (goalLosses (a .picks .strict) ns (G .goals) (G .tools) P) 0 (length ns)) =
+    c .before .before .before .before .before .before .before .before .before .put-goals .ensures ∙ ap₂ (λ (gs ts : List Float). splice o 0 (runs (goalLosses (a .picks .strict) ns gs ts P) 0 (length ns))) (c .before .before .before .before .before .before .before .before .before .before .before .before .goals .ensures .0) (c .before .before .before .before .before .before .before .before .before .before .before .tools .ensures .0) in
+    let o₁ : List Float = c .before .before .before .before .before .before .before .before .before .put-goals .last .1 .1 .1 .1 .1 .1 .1 .0 in
     let q : now (c .before .before .before .before .before .limits .result) ≡ G .limits = c .before .before .before .before .before .limits .ensures .0 ∙ ap (λ (m : ℕ). limitsOf m (now (a .task))) v in
-    let e₂ : c .before .before .before .put-limits .last .1 .1 .1 .1 .0 ≡ splice o₁ (goalWidth * length ns) (runs (limitLosses (G .limits) X) 0 (length X)) =
-    c .before .before .before .put-limits .ensures ∙ ap (λ (ls : List Float). splice o₁ (goalWidth * length ns) (runs (limitLosses ls X) 0 (length X))) q in
-    ((t .whole, omega (arith, v, t .paired .counted .few), omega (arith, enough G P X o _ w v (k .room) e₁, length-two G P X o _ w v (k .room) e₁ _ _ refl e₂)), (t .paired .counted, t .view))
+    let e₂ : c .before .before .before .put-limits .last .1 .1 .1 .1 .0 ≡ splice o₁ (n) (runs (limitLosses (G .limits) X) 0 (length X)) =
+    c .before .before .before .put-limits .ensures ∙ ap (λ (ls : List Float). splice o₁ (n) (runs (limitLosses ls X) 0 (length X))) q in
+    ((t .whole, omega (arith, v, t .paired .counted .few), omega (arith, enough G P X o _ w v (k .room) e₁, length-two G P X o _ w v (k .room) e₁ _ n e e₂, e)), (t .paired .counted, t .view))
 
 any-nan-requires : tie.Need-any-nan-requires
 any-nan-requires c κs = search needs
@@ -117,10 +122,10 @@ any-nan-requires c κs = search needs
 add-put-pairs : tie.Need-add-put-pairs
 unfolding givenOf
 add-put-pairs c =
-    let s = c .before .before .before .before .before .before .before .before .before .before .before .before .before .before .before .before .before .before .before .before .before .before .before in
+    let s = c .before .before .before .before .before .before .before .before .before .before .before .before .before .before .before .before .before .before .before .before .before .before .before .before in
     let a = s .args in
     let ns = now (a .counts) in
-    let G : Given = givenOf ns (now (a .codes)) (now (a .task)) in
+    let G : Given = givenOf ns (now (a .codes)) (now (a .task)) (a .picks) in
     let W = a .walked in
     let P : ℕ → Pose = viewOf (now (a .base)) (now (a .tail)) (W .from) (W .to) in
     let X = now (a .x) in
@@ -129,17 +134,17 @@ add-put-pairs c =
     let k = s .pre .1 in
     let w = t .paired .counted .whole in
     let v = t .values in
-    let e₁ : c .before .before .before .before .before .before .before .before .before .before .before .before .put-goals .last .1 .1 .1 .1 .1 .1 .1 .0 ≡ splice o 0 (runs (goalLosses ns (G .goals) (G .tools) P) 0 (length ns)) =
-    c .before .before .before .before .before .before .before .before .before .before .before .before .put-goals .ensures ∙ ap₂ (λ (gs ts : List Float). splice o 0 (runs (goalLosses ns gs ts P) 0 (length ns))) (c .before .before .before .before .before .before .before .before .before .before .before .before .before .before .before .goals .ensures .0) (c .before .before .before .before .before .before .before .before .before .before .before .before .before .before .tools .ensures .0) in
-    omega (arith, s .good, k .room, enough G P X o _ w v (k .room) e₁)
+    let e₁ : c .before .before .before .before .before .before .before .before .before .before .before .before .before .put-goals .last .1 .1 .1 .1 .1 .1 .1 .0 ≡ splice o 0 (runs (goalLosses (a .picks .strict) ns (G .goals) (G .tools) P) 0 (length ns)) =
+    c .before .before .before .before .before .before .before .before .before .before .before .before .before .put-goals .ensures ∙ ap₂ (λ (gs ts : List Float). splice o 0 (runs (goalLosses (a .picks .strict) ns gs ts P) 0 (length ns))) (c .before .before .before .before .before .before .before .before .before .before .before .before .before .before .before .before .goals .ensures .0) (c .before .before .before .before .before .before .before .before .before .before .before .before .before .before .before .tools .ensures .0) in
+    omega (arith, s .good, k .room, enough G P X o _ w v (k .room) e₁, c .before .before .before .before .before .before .before .before .before .before .goals-to .ensures .0)
 
 put-pairs-requires : tie.Need-put-pairs-requires
 unfolding givenOf
 put-pairs-requires c κs =
-    let s = c .before .before .before .before .before .before .before .before .before .before .before .before .before .before .before .before .before .before .before .before .before .before .before .before in
+    let s = c .before .before .before .before .before .before .before .before .before .before .before .before .before .before .before .before .before .before .before .before .before .before .before .before .before in
     let a = s .args in
     let ns = now (a .counts) in
-    let G : Given = givenOf ns (now (a .codes)) (now (a .task)) in
+    let G : Given = givenOf ns (now (a .codes)) (now (a .task)) (a .picks) in
     let W = a .walked in
     let P : ℕ → Pose = viewOf (now (a .base)) (now (a .tail)) (W .from) (W .to) in
     let X = now (a .x) in
@@ -148,22 +153,26 @@ put-pairs-requires c κs =
     let k = s .pre .1 in
     let w = t .paired .counted .whole in
     let v = t .values in
-    let e₁ : c .before .before .before .before .before .before .before .before .before .before .before .before .before .put-goals .last .1 .1 .1 .1 .1 .1 .1 .0 ≡ splice o 0 (runs (goalLosses ns (G .goals) (G .tools) P) 0 (length ns)) =
-    c .before .before .before .before .before .before .before .before .before .before .before .before .before .put-goals .ensures ∙ ap₂ (λ (gs ts : List Float). splice o 0 (runs (goalLosses ns gs ts P) 0 (length ns))) (c .before .before .before .before .before .before .before .before .before .before .before .before .before .before .before .before .goals .ensures .0) (c .before .before .before .before .before .before .before .before .before .before .before .before .before .before .before .tools .ensures .0) in
-    let o₁ : List Float = c .before .before .before .before .before .before .before .before .before .before .before .before .before .put-goals .last .1 .1 .1 .1 .1 .1 .1 .0 in
+    let n : ℕ = c .before .before .before .before .before .before .before .before .before .before .before .goals-to .result in
+    let e : n ≡ length ns * goalWidth (a .picks .strict) = c .before .before .before .before .before .before .before .before .before .before .before .goals-to .ensures .0 in
+    let e₁ : c .before .before .before .before .before .before .before .before .before .before .before .before .before .before .put-goals .last .1 .1 .1 .1 .1 .1 .1 .0 ≡ splice o 0 (runs (goalLosses (a .picks .strict) ns (G .goals) (G .tools) P) 0 (length ns)) =
+    c .before .before .before .before .before .before .before .before .before .before .before .before .before .before .put-goals .ensures ∙ ap₂ (λ (gs ts : List Float). splice o 0 (runs (goalLosses (a .picks .strict) ns gs ts P) 0 (length ns))) (c .before .before .before .before .before .before .before .before .before .before .before .before .before .before .before .before .before .goals .ensures .0) (c .before .before .before .before .before .before .before .before .before .before .before .before .before .before .before .before .tools .ensures .0) in
+    let o₁ : List Float = c .before .before .before .before .before .before .before .before .before .before .before .before .before .before .put-goals .last .1 .1 .1 .1 .1 .1 .1 .0 in
     let q : now (c .before .before .before .before .before .before .before .before .before .before .limits .result) ≡ G .limits = c .before .before .before .before .before .before .before .before .before .before .limits .ensures .0 ∙ ap (λ (m : ℕ). limitsOf m (now (a .task))) v in
-    let e₂ : c .before .before .before .before .before .before .before .before .put-limits .last .1 .1 .1 .1 .0 ≡ splice o₁ (goalWidth * length ns) (runs (limitLosses (G .limits) X) 0 (length X)) =
-    c .before .before .before .before .before .before .before .before .put-limits .ensures ∙ ap (λ (ls : List Float). splice o₁ (goalWidth * length ns) (runs (limitLosses ls X) 0 (length X))) q in
+    let e₂ : c .before .before .before .before .before .before .before .before .put-limits .last .1 .1 .1 .1 .0 ≡ splice o₁ (n) (runs (limitLosses (G .limits) X) 0 (length X)) =
+    c .before .before .before .before .before .before .before .before .put-limits .ensures ∙ ap (λ (ls : List Float). splice o₁ (n) (runs (limitLosses ls X) 0 (length X))) q in
     let o₂ : List Float = c .before .before .before .before .before .before .before .before .put-limits .last .1 .1 .1 .1 .0 in
-    let e₃ : c .before .before .before .before .put-motion .last .1 .1 .1 .1 .1 .1 .1 .1 .0 ≡ splice o₂ (goalWidth * length ns + length X) (motionLosses P ns (now (a .codes)) X (G .xopt) (G .«prev_state») (G .«prev_state2»)) =
+    let e₃ : c .before .before .before .before .put-motion .last .1 .1 .1 .1 .1 .1 .1 .1 .0 ≡ splice o₂ (n + length X) (motionLosses P ns (now (a .codes)) X (G .xopt) (G .«prev_state») (G .«prev_state2»)) =
     c .before .before .before .before .put-motion .ensures
-    ∙ ap (λ (m : ℕ). splice o₂ (goalWidth * length ns + length X) (motionLosses P ns (now (a .codes)) X (xoptOf m (now (a .task))) (prevStateOf m (now (a .task))) (prevState2Of m (now (a .task))))) v in
+    ∙ ap (λ (m : ℕ). splice o₂ (n + length X) (motionLosses P ns (now (a .codes)) X (xoptOf m (now (a .task))) (prevStateOf m (now (a .task))) (prevState2Of m (now (a .task))))) v in
     let o₃ : List Float = c .before .before .before .before .put-motion .last .1 .1 .1 .1 .1 .1 .1 .1 .0 in
     let lens : List ℕ = chainLengths ns (now (a .codes)) in
-    let at : ℕ = goalWidth * length ns + length X + 4 in (
+    let r : n + length X ≡ length ns * goalWidth (a .picks .strict) + length X = ap (λ (m : ℕ). m + length X) e in
+    let at : ℕ = n + length X + 4 in
+    let z : at ≡ length ns * goalWidth (a .picks .strict) + length X + 4 = ap (λ (m : ℕ). m + length X + 4) e in (
       (t .paired, t .view),
       subst (λ (b : Bool). CachedPairs (pairLasts ns firstArm lens) (pairLosses ns P firstArm lens b) (W .from) at o₃) (sym (c .before .any-nan .ensures))
-          (pairs-cached G P X (W .from) (W .to) (W .joint) o k w v _ (length-three G P X o _ w v (k .room) e₁ _ _ refl e₂ _ _ refl e₃) at refl (behind-three G P X o _ w v (k .room) e₁ _ _ refl e₂ _ _ refl e₃)),
+          (pairs-cached G P X (W .from) (W .to) (W .joint) o k w v _ (length-three G P X o _ w v (k .room) e₁ _ n e e₂ _ _ r e₃) at z (λ i h. behind-three G P X o _ w v (k .room) e₁ _ n e e₂ _ _ r e₃ i (omega (arith, e)))),
     )
 
 same-length : tie.Need-same-length
@@ -172,10 +181,10 @@ same-length c = search needs
 returns : tie.Need-returns
 unfolding givenOf
 returns c =
-    let s = c .before .before .before .before .before .before .before .before .before .before .before .before .before .before .before .before .before .before .before .before .before .before .before .before .before .before .before in
+    let s = c .before .before .before .before .before .before .before .before .before .before .before .before .before .before .before .before .before .before .before .before .before .before .before .before .before .before .before .before in
     let a = s .args in
     let ns = now (a .counts) in
-    let G : Given = givenOf ns (now (a .codes)) (now (a .task)) in
+    let G : Given = givenOf ns (now (a .codes)) (now (a .task)) (a .picks) in
     let W = a .walked in
     let P : ℕ → Pose = viewOf (now (a .base)) (now (a .tail)) (W .from) (W .to) in
     let X = now (a .x) in
@@ -184,19 +193,23 @@ returns c =
     let k = s .pre .1 in
     let w = t .paired .counted .whole in
     let v = t .values in
-    let e₁ : c .before .before .before .before .before .before .before .before .before .before .before .before .before .before .before .before .put-goals .last .1 .1 .1 .1 .1 .1 .1 .0 ≡ splice o 0 (runs (goalLosses ns (G .goals) (G .tools) P) 0 (length ns)) =
-    c .before .before .before .before .before .before .before .before .before .before .before .before .before .before .before .before .put-goals .ensures ∙ ap₂ (λ (gs ts : List Float). splice o 0 (runs (goalLosses ns gs ts P) 0 (length ns))) (c .before .before .before .before .before .before .before .before .before .before .before .before .before .before .before .before .before .before .before .goals .ensures .0) (c .before .before .before .before .before .before .before .before .before .before .before .before .before .before .before .before .before .before .tools .ensures .0) in
-    let o₁ : List Float = c .before .before .before .before .before .before .before .before .before .before .before .before .before .before .before .before .put-goals .last .1 .1 .1 .1 .1 .1 .1 .0 in
+    let n : ℕ = c .before .before .before .before .before .before .before .before .before .before .before .before .before .before .goals-to .result in
+    let e : n ≡ length ns * goalWidth (a .picks .strict) = c .before .before .before .before .before .before .before .before .before .before .before .before .before .before .goals-to .ensures .0 in
+    let e₁ : c .before .before .before .before .before .before .before .before .before .before .before .before .before .before .before .before .before .put-goals .last .1 .1 .1 .1 .1 .1 .1 .0 ≡ splice o 0 (runs (goalLosses (a .picks .strict) ns (G .goals) (G .tools) P) 0 (length ns)) =
+    c .before .before .before .before .before .before .before .before .before .before .before .before .before .before .before .before .before .put-goals .ensures ∙ ap₂ (λ (gs ts : List Float). splice o 0 (runs (goalLosses (a .picks .strict) ns gs ts P) 0 (length ns))) (c .before .before .before .before .before .before .before .before .before .before .before .before .before .before .before .before .before .before .before .before .goals .ensures .0) (c .before .before .before .before .before .before .before .before .before .before .before .before .before .before .before .before .before .before .before .tools .ensures .0) in
+    let o₁ : List Float = c .before .before .before .before .before .before .before .before .before .before .before .before .before .before .before .before .before .put-goals .last .1 .1 .1 .1 .1 .1 .1 .0 in
     let q : now (c .before .before .before .before .before .before .before .before .before .before .before .before .before .limits .result) ≡ G .limits = c .before .before .before .before .before .before .before .before .before .before .before .before .before .limits .ensures .0 ∙ ap (λ (m : ℕ). limitsOf m (now (a .task))) v in
-    let e₂ : c .before .before .before .before .before .before .before .before .before .before .before .put-limits .last .1 .1 .1 .1 .0 ≡ splice o₁ (goalWidth * length ns) (runs (limitLosses (G .limits) X) 0 (length X)) =
-    c .before .before .before .before .before .before .before .before .before .before .before .put-limits .ensures ∙ ap (λ (ls : List Float). splice o₁ (goalWidth * length ns) (runs (limitLosses ls X) 0 (length X))) q in
+    let e₂ : c .before .before .before .before .before .before .before .before .before .before .before .put-limits .last .1 .1 .1 .1 .0 ≡ splice o₁ (n) (runs (limitLosses (G .limits) X) 0 (length X)) =
+    c .before .before .before .before .before .before .before .before .before .before .before .put-limits .ensures ∙ ap (λ (ls : List Float). splice o₁ (n) (runs (limitLosses ls X) 0 (length X))) q in
     let o₂ : List Float = c .before .before .before .before .before .before .before .before .before .before .before .put-limits .last .1 .1 .1 .1 .0 in
-    let e₃ : c .before .before .before .before .before .before .before .put-motion .last .1 .1 .1 .1 .1 .1 .1 .1 .0 ≡ splice o₂ (goalWidth * length ns + length X) (motionLosses P ns (now (a .codes)) X (G .xopt) (G .«prev_state») (G .«prev_state2»)) =
+    let e₃ : c .before .before .before .before .before .before .before .put-motion .last .1 .1 .1 .1 .1 .1 .1 .1 .0 ≡ splice o₂ (n + length X) (motionLosses P ns (now (a .codes)) X (G .xopt) (G .«prev_state») (G .«prev_state2»)) =
     c .before .before .before .before .before .before .before .put-motion .ensures
-    ∙ ap (λ (m : ℕ). splice o₂ (goalWidth * length ns + length X) (motionLosses P ns (now (a .codes)) X (xoptOf m (now (a .task))) (prevStateOf m (now (a .task))) (prevState2Of m (now (a .task))))) v in
+    ∙ ap (λ (m : ℕ). splice o₂ (n + length X) (motionLosses P ns (now (a .codes)) X (xoptOf m (now (a .task))) (prevStateOf m (now (a .task))) (prevState2Of m (now (a .task))))) v in
     let o₃ : List Float = c .before .before .before .before .before .before .before .put-motion .last .1 .1 .1 .1 .1 .1 .1 .1 .0 in
-    let at : ℕ = goalWidth * length ns + length X + 4 in
-    losses-made G P X o _ w v (k .room) e₁ _ _ refl e₂ _ _ refl e₃ _ at refl
+    let r : n + length X ≡ length ns * goalWidth (a .picks .strict) + length X = ap (λ (m : ℕ). m + length X) e in
+    let at : ℕ = n + length X + 4 in
+    let z : at ≡ length ns * goalWidth (a .picks .strict) + length X + 4 = ap (λ (m : ℕ). m + length X + 4) e in
+    losses-made G P X o _ w v (k .room) e₁ _ n e e₂ _ _ r e₃ _ at z
     (c .before .before .put-pairs .ensures ∙ ap (λ (b : Bool). splice o₃ at (pairLosses ns P firstArm (chainLengths ns (now (a .codes))) b)) (c .before .before .before .before .any-nan .ensures))
 
 pub put-losses-spec : {M : Type 1} → statement M
@@ -206,7 +219,7 @@ put-losses-spec =
     goals-requires
     tools-requires
     put-goals-requires
-    mul-n
+    goals-to-requires
     limits-requires
     put-limits-requires
     add-m

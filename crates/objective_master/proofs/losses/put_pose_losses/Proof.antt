@@ -1,34 +1,19 @@
--- `put_pose_losses` meets its contract: two runs that touch are one.
-use mathlib.Core.Path.{ap, _∙_}
-use mathlib.Core.List.{List, _++_}
-use Prim.Native.Nat.{_+_}
+-- `put_pose_losses` meets its contract, of either list.
+use mathlib.Core.Path.{sym, ap, _∙_}
+use mathlib.Core.Bool.{Bool}
 use native.Mathlib.Omega.{arith}
 use denote.Ref.{now}
-use lib.Ieee.{Float}
-use Rattle.lists.specs.Splice.{splice, splice-splice}
-use Rattle.spacetime.specs.Floats.{flatVec, vec-length}
-use Rattle.objective_master.specs.Losses.{poseLosses, offLosses}
+use Rattle.lists.specs.Splice.{splice}
+use Rattle.objective_master.specs.Objective.{goalWidth}
+use Rattle.objective_master.specs.Losses.{poseLosses}
 use borrow.Author.Needs.{needs}
 use Rattle.objective_master.proofs.losses.put_pose_losses.Statement.{statement}
 use Rattle.objective_master.proofs.losses.put_pose_losses.Tie as tie
-use Rattle.objective_master.proofs.losses.off_losses.Reads as off-losses-reads
-use Rattle.objective_master.proofs.losses.turn_losses.Reads as turn-losses-reads
-use Rattle.spacetime.proofs.floats.put_vec.Reads as put-vec-reads
+use Rattle.objective_master.proofs.losses.put_strict_losses.Reads as put-strict-losses-reads
+use Rattle.objective_master.proofs.losses.put_tolerance_losses.Reads as put-tolerance-losses-reads
 
-off-losses-requires : tie.Need-off-losses-requires
-off-losses-requires c κs = search needs
-
-turn-losses-requires : tie.Need-turn-losses-requires
-turn-losses-requires c κs = search needs
-
-put-vec-requires : tie.Need-put-vec-requires
-put-vec-requires c κs = search needs
-
-add-put-vec : tie.Need-add-put-vec
-add-put-vec c = search needs
-
-put-vec-requires-2 : tie.Need-put-vec-requires-2
-put-vec-requires-2 c κs = search needs
+put-strict-losses-requires : tie.Need-put-strict-losses-requires
+put-strict-losses-requires c κs = (c .before .before .before .before .pre .0, omega (arith, c .before .before .before .before .pre .1, ap goalWidth (c .before .if1 .taken)))
 
 same-length : tie.Need-same-length
 same-length c = search needs
@@ -36,25 +21,20 @@ same-length c = search needs
 returns : tie.Need-returns
 unfolding poseLosses
 returns c =
-    let t = c .before .before .before .before .before .before .before .before in
-    let o = c .before .before .before .before .before .before .before .before .before in
-    let s = c .before .before .before .before .before .before .before .before .before .before .before .before in
-    let a = s .args in
-    let v = o .off-losses .result in
-    let w = t .turn-losses .result in
-    c .before .before .put-vec2 .ensures ∙ ap (λ (m : List Float). splice m (a .at + 3) (flatVec w)) (c .before .before .before .before .before .before .put-vec .ensures)
-    ∙ splice-splice (now (a .out)) (a .at) (a .at + 3) (flatVec v) (flatVec w) (omega (arith, vec-length v)) (omega (arith, s .pre, vec-length v))
-    ∙ ap (λ (m : List Float). splice (now (a .out)) (a .at) (m ++ flatVec w)) (o .off-losses .ensures)
-    ∙ ap (λ (m : List Float). splice (now (a .out)) (a .at) (offLosses (now (a .goals)) (a .c) (a .end) ++ m)) (t .turn-losses .ensures)
+    let a = c .before .before .before .before .before .before .before .args in
+    c .before .before .put-strict-losses .ensures ∙ ap (λ (s : Bool). splice (now (a .out)) (a .at) (poseLosses s (now (a .goals)) (a .c) (a .end))) (sym (c .before .before .before .before .if1 .taken))
+
+put-tolerance-losses-requires : tie.Need-put-tolerance-losses-requires
+put-tolerance-losses-requires c κs = (c .before .before .before .before .pre .0, omega (arith, c .before .before .before .before .pre .1, ap goalWidth (c .before .if1 .left)))
+
+same-length-2 : tie.Need-same-length-2
+same-length-2 c = search needs
+
+returns-2 : tie.Need-returns-2
+unfolding poseLosses
+returns-2 c =
+    let a = c .before .before .before .before .before .before .before .args in
+    c .before .before .put-tolerance-losses .ensures ∙ ap (λ (s : Bool). splice (now (a .out)) (a .at) (poseLosses s (now (a .goals)) (a .c) (a .end))) (sym (c .before .before .before .before .if1 .left))
 
 pub put-pose-losses-spec : {M : Type 1} → statement M
-put-pose-losses-spec =
-    tie.close
-    (tie.spec
-    off-losses-requires
-    turn-losses-requires
-    put-vec-requires
-    add-put-vec
-    put-vec-requires-2
-    same-length
-    returns)
+put-pose-losses-spec = tie.close (tie.spec put-strict-losses-requires same-length returns put-tolerance-losses-requires same-length-2 returns-2)

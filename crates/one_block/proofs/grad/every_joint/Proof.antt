@@ -24,16 +24,16 @@ use Rattle.geometry.proofs.pose.origin.Reads as origin-reads
 use Rattle.one_block.proofs.grad.link_turn.Reads as link-turn-reads
 
 abbrev Inv-loop : tie.InvT-loop
-Inv-loop counts codes floats task block₀ kinds f-0s grad₀ joints₀ links₀ frames₀ p₀ link₀ block grad joints links frames p link =
+Inv-loop counts codes floats task picks block₀ kinds f-0s grad₀ joints₀ links₀ frames₀ p₀ link₀ block grad joints links frames p link =
     (link ≤ length codes) × Meets counts codes floats block₀ link p × (p .at ≡ length codes + againBelow counts codes link) × (block ≡ block₀)
     × (joints ≡ splice joints₀ (length codes) (runs (againOf jointEntry counts codes) 0 link))
     × (links ≡ splice links₀ (length codes) (runs (againOf linkEntry counts codes) 0 link))
     × (frames ≡ splice frames₀ (7 * length codes) (runs (againOf (poseEntry counts codes floats block₀) counts codes) 0 link))
     × (length joints ≡ length joints₀) × (length links ≡ length links₀) × (length frames ≡ length frames₀)
-    × (grad ≡ splice grad₀ 0 (listed (gradientAt (givenOf counts codes task) floats block₀) (jointOf codes link))) × (length grad ≡ length grad₀)
+    × (grad ≡ splice grad₀ 0 (listed (gradientAt (givenOf counts codes task picks) floats block₀) (jointOf codes link))) × (length grad ≡ length grad₀)
 
 abbrev μ-loop : tie.MeasureT-loop
-μ-loop counts codes floats task block₀ kinds f-0s grad₀ joints₀ links₀ frames₀ p₀ link₀ block grad joints links frames p link =
+μ-loop counts codes floats task picks block₀ kinds f-0s grad₀ joints₀ links₀ frames₀ p₀ link₀ block grad joints links frames p link =
     length codes - link
 
 origin-requires : tie.Need-origin-requires Inv-loop μ-loop
@@ -48,7 +48,7 @@ loop-holds c =
     let T = now (a .task) in
     let gs = now (a .floats) in
     let x = now (a .block) in
-    let G : Given = givenOf ns cs T in
+    let G : Given = givenOf ns cs T (a .picks) in
     let n = length cs in
     let slope : ℕ → Float = gradientAt G gs x in (
       omega arith,
@@ -75,7 +75,7 @@ link-turn-requires c κs =
     let T = now (a .task) in
     let gs = now (a .floats) in
     let x = now (a .block) in
-    let G : Given = givenOf ns cs T in
+    let G : Given = givenOf ns cs T (a .picks) in
     let n = length cs in
     let i = l .loop .inv in
     let r = s .pre .1 .0 in
@@ -120,7 +120,7 @@ loop-again c =
     let T = now (a .task) in
     let gs = now (a .floats) in
     let x = now (a .block) in
-    let G : Given = givenOf ns cs T in
+    let G : Given = givenOf ns cs T (a .picks) in
     let n = length cs in
     let i = l .loop .inv in
     let t = c .before .before .before .before .before .before .before .before .before .before .link-turn in
@@ -143,12 +143,12 @@ loop-again c =
       splice-turn-at (againOf linkEntry ns cs) (now (a .links)) (l .loop .links) _ n (p .at) k (i .5) (omega (arith, i .2, ll)) (omega (arith, r, m, ll)) (e .of-links),
       splice-turn-at (againOf (poseEntry ns cs gs x) ns cs) (now (a .frames)) (l .loop .frames) _ (7 * n) (7 * p .at) k (i .6) (omega (arith, i .2, lp)) (omega (arith, r, m, lp))
           (e .of-frames ∙ ap (λ (y : List Float). splice (l .loop .frames) (7 * p .at) (againOf (poseEntry ns cs gs y) ns cs k)) (i .3)),
-      t .kept .1 .1 .1 .1 .1 .1 .1 .1 .1 .0 ∙ i .7,
-      t .kept .1 .1 .1 .1 .1 .1 .1 .1 .1 .1 .0 ∙ i .8,
-      t .kept .1 .1 .1 .1 .1 .1 .1 .1 .1 .1 .1 .0 ∙ i .9,
+      t .kept .1 .1 .1 .1 .1 .1 .1 .1 .1 .1 .0 ∙ i .7,
+      t .kept .1 .1 .1 .1 .1 .1 .1 .1 .1 .1 .1 .0 ∙ i .8,
+      t .kept .1 .1 .1 .1 .1 .1 .1 .1 .1 .1 .1 .1 .0 ∙ i .9,
       slopes-turn G gs x (now (a .grad)) (l .loop .grad) _ k (i .10) (i .11) (omega (arith, joint-mono cs (k + 1) n (omega arith), joint-last cs, s .pre .0 .sheet .block, s .pre .1 .1 .1 .slopes-room))
           (t .ensures .1 .1 .1 ∙ ap (λ (y : List Float). slopesAfter G gs y k (l .loop .grad)) (i .3)),
-      t .kept .1 .1 .1 .1 .1 .1 .1 .1 .0 ∙ i .11,
+      t .kept .1 .1 .1 .1 .1 .1 .1 .1 .1 .0 ∙ i .11,
     )
 
 same-length : tie.Need-same-length Inv-loop μ-loop
@@ -176,7 +176,7 @@ returns c =
     let T = now (a .task) in
     let gs = now (a .floats) in
     let x = now (a .block) in
-    let G : Given = givenOf ns cs T in
+    let G : Given = givenOf ns cs T (a .picks) in
     let n = length cs in
     let i = l .loop .inv in
     let e : l .loop .link ≡ n = omega (arith, i .0, c .loop-test .left) in

@@ -36,17 +36,17 @@ abbrev L : tie.After-put-losses → tie.Start
 L c = S (c .before .before .before .before .before .before .before .before .before .before .before .before .before .before .before .before)
 
 -- the kinds stand in front of their list
-listed : (c : tie.After-relaxed-ik) → KindsListed (now (S c .args .counts)) (now (S c .args .codes)) (c .relaxed-ik .last .1 .1 .0) (c .relaxed-ik .result)
+listed : (c : tie.After-relaxed-ik) → KindsListed (S c .args .picks) (now (S c .args .counts)) (now (S c .args .codes)) (c .relaxed-ik .last .1 .1 .1 .0) (c .relaxed-ik .result)
 listed c =
     let a = S c .args in
     let k = c .relaxed-ik in
-    kinds-listed (now (a .counts)) (now (a .codes)) (now (a .task)) (now (a .floats)) (now (a .block)) (S c .pre .0 .0) _ _ _ (k .kept .1 .1 .0) (k .ensures .0) (k .ensures .1)
+    kinds-listed (now (a .counts)) (now (a .codes)) (now (a .task)) (a .picks) (now (a .floats)) (now (a .block)) (S c .pre .0 .0) _ _ _ (k .kept .1 .1 .1 .0) (k .ensures .0) (k .ensures .1)
 
 -- the first losses
 abbrev losses₀ : tie.After-put-losses → List Float
-losses₀ c = c .put-losses .last .1 .1 .1 .1 .1 .1 .1 .0
+losses₀ c = c .put-losses .last .1 .1 .1 .1 .1 .1 .1 .1 .0
 
-made : (c : tie.After-put-losses) → losses₀ c ≡ splice (replicate 131 nought) 0 (lossesAt (givenOf (now (L c .args .counts)) (now (L c .args .codes)) (now (L c .args .task))) (now (L c .args .floats)) (now (L c .args .block)))
+made : (c : tie.After-put-losses) → losses₀ c ≡ splice (replicate 131 nought) 0 (lossesAt (givenOf (now (L c .args .counts)) (now (L c .args .codes)) (now (L c .args .task)) (L c .args .picks)) (now (L c .args .floats)) (now (L c .args .block)))
 made c =
     let w = c .before .before .before .before .before .before .before .before .before .before .first-walk in
     let s = L c in
@@ -56,8 +56,8 @@ made c =
     let T = now (a .task) in
     let gs = now (a .floats) in
     let x = now (a .block) in
-    let G : Given = givenOf ns cs T in
-    c .put-losses .ensures ∙ ap (splice (replicate 131 nought) 0) (losses-walked ns cs T gs x (s .pre .0 .0) (now (a .frames)) (w .last .1 .1 .1 .1 .1 .1 .0) (omega (arith, s .pre .1, entries-over ns cs)) (w .ensures .1 .1))
+    let G : Given = givenOf ns cs T (a .picks) in
+    c .put-losses .ensures ∙ ap (splice (replicate 131 nought) 0) (losses-walked ns cs T (a .picks) gs x (s .pre .0 .0) (now (a .frames)) (w .last .1 .1 .1 .1 .1 .1 .0) (omega (arith, s .pre .1, entries-over ns cs)) (w .ensures .1 .1))
 
 slice-aggregate-relaxed-ik : tie.Need-slice-aggregate-relaxed-ik
 slice-aggregate-relaxed-ik c = search needs
@@ -71,9 +71,9 @@ relaxed-ik-requires c κs =
     let T = now (a .task) in
     let gs = now (a .floats) in
     let x = now (a .block) in
-    let G : Given = givenOf ns cs T in
+    let G : Given = givenOf ns cs T (a .picks) in
     let r = s .pre .0 .0 in
-    ((r .paired .counted, r .sheet .chains), omega (arith, kinds-most ns cs T gs x r, kinds-length ns cs))
+    ((r .paired .counted, r .sheet .chains), omega (arith, kinds-most ns cs T (a .picks) gs x r, kinds-length (a .picks) ns cs))
 
 first-walk-requires : tie.Need-first-walk-requires
 first-walk-requires c κs =
@@ -94,10 +94,10 @@ put-losses-requires c κs =
     let T = now (a .task) in
     let gs = now (a .floats) in
     let x = now (a .block) in
-    let G : Given = givenOf ns cs T in
+    let G : Given = givenOf ns cs T (a .picks) in
     let w = c .before .before .before .before .before .before .before .before .before .first-walk in
     let r = s .pre .0 .0 in
-    (lent-whole ns cs T gs x r (w .last .1 .1 .1 .1 .1 .1 .0) (omega (arith, s .pre .1, entries-over ns cs, w .kept .1 .1 .1 .1 .1 .1 .0)), cached-whole ns cs T gs x r _ _ (kinds-most ns cs T gs x r))
+    (lent-whole ns cs T (a .picks) gs x r (w .last .1 .1 .1 .1 .1 .1 .0) (omega (arith, s .pre .1, entries-over ns cs, w .kept .1 .1 .1 .1 .1 .1 .0)), cached-whole ns cs T (a .picks) gs x r _ _ (kinds-most ns cs T (a .picks) gs x r))
 
 array-share-prefix-list : tie.Need-array-share-prefix-list
 array-share-prefix-list c = listed (c .before .before .before .before .before .before .before .before .before .before .before .before .before .before .before .before .before .before) .within
@@ -121,7 +121,7 @@ every-joint-requires c κs =
     let T = now (a .task) in
     let gs = now (a .floats) in
     let x = now (a .block) in
-    let G : Given = givenOf ns cs T in
+    let G : Given = givenOf ns cs T (a .picks) in
     let n = length cs in
     let rd = s .pre .0 .0 in
     let r = s .pre .1 in (
@@ -132,8 +132,8 @@ every-joint-requires c κs =
           ap (take (7 * n)) (w .ensures .1 .1) ∙ part-splice (now (a .frames)) 0 (7 * n) (framesOf ns cs gs x) (omega arith) (frames-length ns cs gs x),
           record {
             kinds = listed k .front;
-            losses = losses-front G gs x (replicate 131 nought) (losses₀ p) _ (ap length (listed k .front) ∙ kinds-length ns cs) (made p);
-            losses-room = omega (arith, listed k .few, p .put-losses .kept .1 .1 .1 .1 .1 .1 .1 .0);
+            losses = losses-front G gs x (replicate 131 nought) (losses₀ p) _ (ap length (listed k .front) ∙ kinds-length (a .picks) ns cs) (made p);
+            losses-room = omega (arith, listed k .few, p .put-losses .kept .1 .1 .1 .1 .1 .1 .1 .1 .0);
             slopes-room = s .pre .0 .1;
           },
         ),
@@ -153,7 +153,7 @@ slice-aggregate-weighted-sum-2 : tie.Need-slice-aggregate-weighted-sum-2
 slice-aggregate-weighted-sum-2 c = search needs
 
 weighted-sum-requires : tie.Need-weighted-sum-requires
-weighted-sum-requires c κs = omega (arith, listed (c .before .before .before .before .before .before .before .before .before .before .before .before .before .before .before .before .before .before .before .before .before .before .before .before .before .before .before .before .before .before .before .before .before .before .before .before .before .before) .few, c .before .before .before .before .before .before .before .before .before .before .before .before .before .before .before .before .before .before .before .before .before .before .put-losses .kept .1 .1 .1 .1 .1 .1 .1 .0)
+weighted-sum-requires c κs = omega (arith, listed (c .before .before .before .before .before .before .before .before .before .before .before .before .before .before .before .before .before .before .before .before .before .before .before .before .before .before .before .before .before .before .before .before .before .before .before .before .before .before) .few, c .before .before .before .before .before .before .before .before .before .before .before .before .before .before .before .before .before .before .before .before .before .before .put-losses .kept .1 .1 .1 .1 .1 .1 .1 .1 .0)
 
 same-length : tie.Need-same-length
 same-length c = search needs
@@ -162,13 +162,13 @@ same-length-2 : tie.Need-same-length-2
 same-length-2 c = search needs
 
 same-length-3 : tie.Need-same-length-3
-same-length-3 c = c .before .before .before .before .before .before .before .before .before .before .before .before .before .before .every-joint .kept .1 .1 .1 .1 .1 .1 .1 .1 .0 ∙ c .before .before .before .before .before .before .before .before .before .before .before .before .before .before .before .before .before .before .before .before .before .before .before .before .before .before .before .before .before .before .before .before .before .first-walk .kept .1 .1 .1 .1 .0
+same-length-3 c = c .before .before .before .before .before .before .before .before .before .before .before .before .before .before .every-joint .kept .1 .1 .1 .1 .1 .1 .1 .1 .1 .0 ∙ c .before .before .before .before .before .before .before .before .before .before .before .before .before .before .before .before .before .before .before .before .before .before .before .before .before .before .before .before .before .before .before .before .before .first-walk .kept .1 .1 .1 .1 .0
 
 same-length-4 : tie.Need-same-length-4
-same-length-4 c = c .before .before .before .before .before .before .before .before .before .before .before .before .before .before .every-joint .kept .1 .1 .1 .1 .1 .1 .1 .1 .1 .0 ∙ c .before .before .before .before .before .before .before .before .before .before .before .before .before .before .before .before .before .before .before .before .before .before .before .before .before .before .before .before .before .before .before .before .before .first-walk .kept .1 .1 .1 .1 .1 .0
+same-length-4 c = c .before .before .before .before .before .before .before .before .before .before .before .before .before .before .every-joint .kept .1 .1 .1 .1 .1 .1 .1 .1 .1 .1 .0 ∙ c .before .before .before .before .before .before .before .before .before .before .before .before .before .before .before .before .before .before .before .before .before .before .before .before .before .before .before .before .before .before .before .before .before .first-walk .kept .1 .1 .1 .1 .1 .0
 
 same-length-5 : tie.Need-same-length-5
-same-length-5 c = search needs
+same-length-5 c = c .before .before .before .before .before .before .before .before .before .before .before .before .before .before .every-joint .kept .1 .1 .1 .1 .1 .1 .1 .1 .1 .1 .1 .0 ∙ c .before .before .before .before .before .before .before .before .before .before .before .before .before .before .before .before .before .before .before .before .before .before .before .before .before .before .before .before .before .before .before .before .before .first-walk .kept .1 .1 .1 .1 .1 .1 .0
 
 returns : tie.Need-returns
 unfolding recordJoints recordLinks recordPoses recordOf givenOf
@@ -184,11 +184,11 @@ returns c =
     let T = now (a .task) in
     let gs = now (a .floats) in
     let x = now (a .block) in
-    let G : Given = givenOf ns cs T in
+    let G : Given = givenOf ns cs T (a .picks) in
     let n = length cs in
     let r = s .pre .1 in
     let o = entries-over ns cs in
-    let ks = take (k .relaxed-ik .result) (k .relaxed-ik .last .1 .1 .0) in
+    let ks = take (k .relaxed-ik .result) (k .relaxed-ik .last .1 .1 .1 .0) in
     let e = t .ensures .1 .1 in
     let again-joints = runs (againOf jointEntry ns cs) 0 n in
     let again-links = runs (againOf linkEntry ns cs) 0 n in

@@ -42,7 +42,7 @@ returns c =
     let T = now (a .task) in
     let gs = now (a .floats) in
     let x = now (a .block) in
-    let G : Given = givenOf ns cs T in
+    let G : Given = givenOf ns cs T (a .picks) in
     let k = a .turn .link in
     let at = a .turn .here .at in
     let z = joint-missing (getD cs k 0) (sym (c .before .has-joint-at .ensures) ∙ not-true _ (c .if1 .taken)) in (
@@ -69,8 +69,8 @@ one-joint-requires c κs =
     let s = c .before .before .before .before .before .before .before .before .before .before .before .before .before .before .before .before .before .before .before .before .before in
     (s .pre .0, (s .pre .1 .0, ((s .pre .1 .1 .0, has-joint (c .before .before .before .before .before)), s .pre .1 .1 .1)))
 
-add-t21 : tie.Need-add-t21
-add-t21 c =
+add-t22 : tie.Need-add-t22
+add-t22 c =
     let s = c .before .before .before .before .before .before .before .before .before .before .before .before .before .before .before .before .before .before .before .before .before .before .before .before .before .before .before .before .before .before .before .before in
     omega (arith, s .pre .0 .sheet .links, s .pre .1 .1 .0 .inside, s .pre .1 .1 .0 .meets .number, joint-le (now (s .args .codes)) (s .args .turn .link))
 
@@ -107,7 +107,7 @@ link-turn-spec =
     same-length
     returns
     one-joint-requires
-    add-t21
+    add-t22
     same-length-2
     same-length-3
     same-length-4

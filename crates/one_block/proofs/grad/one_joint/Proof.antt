@@ -61,7 +61,7 @@ raised c =
     let T = now (a .task) in
     let gs = now (a .floats) in
     let x = now (a .block) in
-    let G : Given = givenOf ns cs T in
+    let G : Given = givenOf ns cs T (a .picks) in
     let k = a .turn .link in
     let p = a .turn .here in
     let st = s .pre .1 .1 .0 .0 in
@@ -81,7 +81,7 @@ walked c =
     let T = now (a .task) in
     let gs = now (a .floats) in
     let x = now (a .block) in
-    let G : Given = givenOf ns cs T in
+    let G : Given = givenOf ns cs T (a .picks) in
     let k = a .turn .link in
     let p = a .turn .here in
     let st = s .pre .1 .1 .0 .0 in
@@ -100,7 +100,7 @@ first c =
     let T = now (a .task) in
     let gs = now (a .floats) in
     let x = now (a .block) in
-    let G : Given = givenOf ns cs T in
+    let G : Given = givenOf ns cs T (a .picks) in
     let k = a .turn .link in
     let p = a .turn .here in
     let st = s .pre .1 .1 .0 .0 in
@@ -137,7 +137,7 @@ walk-again-requires c κs =
     let T = now (a .task) in
     let gs = now (a .floats) in
     let x = now (a .block) in
-    let G : Given = givenOf ns cs T in
+    let G : Given = givenOf ns cs T (a .picks) in
     let k = a .turn .link in
     let p = a .turn .here in
     let st = s .pre .1 .1 .0 .0 in
@@ -168,7 +168,7 @@ slope-requires c κs =
     let T = now (a .task) in
     let gs = now (a .floats) in
     let x = now (a .block) in
-    let G : Given = givenOf ns cs T in
+    let G : Given = givenOf ns cs T (a .picks) in
     let k = a .turn .link in
     let p = a .turn .here in
     let st = s .pre .1 .1 .0 .0 in
@@ -180,7 +180,7 @@ slope-requires c κs =
     let ee = e .chain-end .ensures in
     let fit = fitting w in
     let f = room s in (
-      (kn .kinds, omega (arith, ap length (kn .kinds), kinds-most ns cs T gs x rd), kn .losses-room, omega (arith, fit, frames-kept)),
+      (kn .kinds, omega (arith, ap length (kn .kinds), kinds-most ns cs T (a .picks) gs x rd), kn .losses-room, omega (arith, fit, frames-kept)),
       (
         record {
           paired = rd .paired;
@@ -189,7 +189,7 @@ slope-requires c κs =
           values = many ∙ rd .sheet .block;
           whole = rd .whole;
         },
-        cached-at ns cs T gs x rd k (st .inside) turns (F w) (now (a .frames)) (7 * p .at) (first w) (walked w) fit (now (a .kinds)) (now (a .f-0s)) (now (a .grad)) kn
+        cached-at ns cs T (a .picks) gs x rd k (st .inside) turns (F w) (now (a .frames)) (7 * p .at) (first w) (walked w) fit (now (a .kinds)) (now (a .f-0s)) (now (a .grad)) kn
             (w .walk-again .last .1 .1 .1 .0) (e .chain-end .result) (copied w) ee (p .joint) (st .meets .number),
       ),
     )
@@ -235,7 +235,7 @@ returns c =
     let T = now (a .task) in
     let gs = now (a .floats) in
     let x = now (a .block) in
-    let G : Given = givenOf ns cs T in
+    let G : Given = givenOf ns cs T (a .picks) in
     let k = a .turn .link in
     let p = a .turn .here in
     let st = s .pre .1 .1 .0 .0 in
@@ -254,7 +254,7 @@ returns c =
           },
           ap (set (now (a .grad)) j)
               (c .before .before .before .before .slope .ensures
-              ∙ slope-at ns cs T gs x (s .pre .0) k (st .inside) turns (F w) (now (a .frames)) (7 * p .at) (first w) (walked w) (fitting w) (now (a .kinds)) (now (a .f-0s)) (now (a .grad)) (s .pre .1 .1 .1)
+              ∙ slope-at ns cs T (a .picks) gs x (s .pre .0) k (st .inside) turns (F w) (now (a .frames)) (7 * p .at) (first w) (walked w) (fitting w) (now (a .kinds)) (now (a .f-0s)) (now (a .grad)) (s .pre .1 .1 .1)
               (w .walk-again .last .1 .1 .1 .0) (e .chain-end .result) (copied w) ee)
               ∙ ap (λ (i : ℕ). set (now (a .grad)) i (gradientAt G gs x (jointOf cs k))) number
               ∙ slopes-joint G gs x k (now (a .grad)) turns,

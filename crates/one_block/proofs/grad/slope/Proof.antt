@@ -70,7 +70,7 @@ put-losses-requires c κs =
     let ns = now (a .counts) in
     let cs = now (a .codes) in
     let T = now (a .task) in
-    let G : Given = givenOf ns cs T in
+    let G : Given = givenOf ns cs T (a .picks) in
     let x = now (a .x) in
     let w = a .walked in
     let fs = now (a .frames) in
@@ -80,7 +80,7 @@ put-losses-requires c κs =
     let p = s .pre .0 in (
       subst (λ (t : List Float). Lent ns cs T x fs t (w .from) (w .to)) (sym (rest s)) (s .pre .1 .0),
       subst (λ (t : List Float). Cached G (viewOf fs t (w .from) (w .to)) x (w .from) (w .to) (w .joint) cur) (sym (rest s))
-          (cached-front G view x (w .from) (w .to) (w .joint) (length (now (a .kinds))) (now (a .f-0s)) _ cur (s .pre .1 .1) (ap length (p .0) ∙ kinds-length ns cs) (p .2) (p .1) (f .ensures)),
+          (cached-front G view x (w .from) (w .to) (w .joint) (length (now (a .kinds))) (now (a .f-0s)) _ cur (s .pre .1 .1) (ap length (p .0) ∙ kinds-length (a .picks) ns cs) (p .2) (p .1) (f .ensures)),
     )
 
 weights-requires : tie.Need-weights-requires
@@ -100,7 +100,7 @@ returns c =
     let ns = now (a .counts) in
     let cs = now (a .codes) in
     let T = now (a .task) in
-    let G : Given = givenOf ns cs T in
+    let G : Given = givenOf ns cs T (a .picks) in
     let x = now (a .x) in
     let w = a .walked in
     let fs = now (a .frames) in
@@ -108,7 +108,7 @@ returns c =
     let l = c .before .before .before .before .before .put-losses in
     let cur = c .before .before .before .before .before .before .before .before .before .copy-floats .last .1 .0 in
     c .before .weighted-slope .ensures
-    ∙ slope-made G view x (now (a .f-0s)) cur (l .last .1 .1 .1 .1 .1 .1 .1 .0) _ (now (a .kinds)) (c .before .before .before .weights .ensures .0) (s .pre .0 .0)
+    ∙ slope-made G view x (now (a .f-0s)) cur (l .last .1 .1 .1 .1 .1 .1 .1 .1 .0) _ (now (a .kinds)) (c .before .before .before .weights .ensures .0) (s .pre .0 .0)
     (l .ensures ∙ ap (λ (t : List Float). splice cur 0 (lossesOf G (viewOf fs t (w .from) (w .to)) x)) (rest s))
 
 pub slope-spec : {M : Type 1} → statement M

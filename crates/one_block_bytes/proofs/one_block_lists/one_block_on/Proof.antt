@@ -90,7 +90,7 @@ returns c =
     let a = s .args in
     let cs = now (a .codes) in
     let l = c .before .before .before .before .before .before .before .before .before .before .before .before .before .before .before .before .before .before .before .before .before .links .ensures in
-    let g = laid-taken (sheet s) _ _ (known s) (four (c .before .before .before .before .before .before .before .before .before .before .before .before .before .before .before .before .before .before .before .before)) _ _ _ l refl (c .before .before .before .before .before .before .before .before .before .before .before .before .before .before .before .before .before .before .lay-lent .ensures) in
+    let g = laid-taken (sheet s) _ _ (known s) (four (c .before .before .before .before .before .before .before .before .before .before .before .before .before .before .before .before .before .before .before .before)) _ _ _ _ l refl (c .before .before .before .before .before .before .before .before .before .before .before .before .before .before .before .before .before .before .lay-lent .ensures) in
     let e = c .before .before .before .before .before .before .before .before .before .before .gradient .ensures in (
       e .0 ∙ ap (λ g′. valueAt g′ (now (a .floats)) (block s)) g,
       (

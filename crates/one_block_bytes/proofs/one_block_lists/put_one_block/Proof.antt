@@ -46,7 +46,7 @@ slice-aggregate-put-slopes c = search needs
 put-slopes-requires : tie.Need-put-slopes-requires
 put-slopes-requires c κs =
     let t = c .before .before .before .before .before .before .before .before .before .before .before .before .before .before .before .before .before .before .before .before .before .before .before .before .before .before .before .before .before .before .pre .0 in
-    let g = c .before .before .before .before .before .before .before .before .before .before .one-block-on .kept .1 .1 .1 .1 .1 .1 .1 .1 in
+    let g = c .before .before .before .before .before .before .before .before .before .before .one-block-on .kept .1 .1 .1 .1 .1 .1 .1 .1 .1 in
     (omega (arith, t .few, g .0, g .1 .0), t .value-room, omega (arith, t .slopes-room, g .0))
 
 entries-requires : tie.Need-entries-requires
@@ -62,7 +62,7 @@ put-record-requires : tie.Need-put-record-requires
 put-record-requires c κs =
     let p = c .before .before .before .before .before .before .before .before .before .before .before .before .before .before .before .before .before .before .before .before .before .before .before .before .before .before .before .before .before .before .before .before .before .before .before .before .before .before .before .before .before .before .pre in
     let t = p .0 in
-    let g = c .before .before .before .before .before .before .before .before .before .before .before .before .before .before .before .before .before .before .before .before .before .before .one-block-on .kept .1 .1 .1 .1 .1 .1 .1 .1 .1 .1 in
+    let g = c .before .before .before .before .before .before .before .before .before .before .before .before .before .before .before .before .before .before .before .before .before .before .one-block-on .kept .1 .1 .1 .1 .1 .1 .1 .1 .1 .1 .1 in
     let m = c .before .before .before .before .before .before .entries .ensures in (
       (omega (arith, m, t .entries, g .0), omega (arith, m, t .entries, g .1 .0), omega (arith, m, p .1, g .1 .1 .0)),
       (omega (arith, m, t .joints-room), omega (arith, m, t .links-room), omega (arith, m, t .poses-room)),
@@ -97,7 +97,7 @@ returns c =
     let g = c .before .before .before .before .before .before .before .before .before .before .before .before .before .before .before .before .before .before .before .before .before .before .before .before .before .before .before .before .before .one-block-on .ensures in
     let p = c .before .before .before .before .before .before .before .before .before .before .before .before .before .before .before .before .before .before .put-slopes .ensures in
     let q = c .before .before .before .before .before .before .put-record .ensures in
-    let l = slopes-in-length EachLoss (sheet s) _ (block s) ∙ sym (ap length (g .1 .0)) in (
+    let l = slopes-in-length EachLoss (sheet s) _ (a .picks) (block s) ∙ sym (ap length (g .1 .0)) in (
       p .0 ∙ ap (λ (v : Float). splice (now (a .value)) 0 (bytesOf (v ∷ []))) (g .0) ∙ sym (taken 0 _ _ refl),
       (
         p .1 ∙ ap (λ (y : List Float). splice (now (a .slopes)) 0 (bytesOf y)) (front _ _ _ _ (g .1 .1 .0) l) ∙ sym (taken 0 _ _ refl),

@@ -96,8 +96,17 @@ leaf-requires c κs = search needs
 returns-10 : tie.Need-returns-10
 unfolding recordAgrees callAgrees
 returns-10 c =
-    let n = c .before .before .before .before .before .before .before .before .before .before in
-    rw (← n .number-at .ensures .0, ne-eqb _ 0 (c .before .before .before .before .before .before .before .before .before .if1 .left), ne-eqb _ 1 (c .before .before .before .before .before .before .before .before .if2 .left), le-ltb _ 6 (c .before .before .before .before .before .before .before .if3 .left), le-ltb _ 8 (c .before .before .before .before .before .before .if4 .left), le-ltb _ 10 (c .before .before .before .before .before .if5 .left), ne-eqb _ 10 (c .before .before .before .before .if6 .left), ne-eqb _ 41 (c .before .before .before .if7 .left), ne-eqb _ 42 (c .before .before .if8 .left), ne-eqb _ 43 (c .before .if9 .left)) (c .leaf .ensures)
+    let n = c .before .before .before .before .before .before .before .before .before .before .before in
+    rw (← n .number-at .ensures .0, ne-eqb _ 0 (c .before .before .before .before .before .before .before .before .before .before .if1 .left), ne-eqb _ 1 (c .before .before .before .before .before .before .before .before .before .if2 .left), le-ltb _ 6 (c .before .before .before .before .before .before .before .before .if3 .left), le-ltb _ 8 (c .before .before .before .before .before .before .before .if4 .left), le-ltb _ 10 (c .before .before .before .before .before .before .if5 .left), ne-eqb _ 10 (c .before .before .before .before .before .if6 .left), ne-eqb _ 41 (c .before .before .before .before .if7 .left), ne-eqb _ 42 (c .before .before .before .if8 .left), ne-eqb _ 43 (c .before .before .if9 .left), lt-ltb _ 44 (c .before .if10 .taken)) (c .leaf .ensures)
+
+leaf-requires-2 : tie.Need-leaf-requires-2
+leaf-requires-2 c κs = search needs
+
+returns-11 : tie.Need-returns-11
+unfolding recordAgrees callAgrees
+returns-11 c =
+    let n = c .before .before .before .before .before .before .before .before .before .before .before in
+    rw (← n .number-at .ensures .0, ne-eqb _ 0 (c .before .before .before .before .before .before .before .before .before .before .if1 .left), ne-eqb _ 1 (c .before .before .before .before .before .before .before .before .before .if2 .left), le-ltb _ 6 (c .before .before .before .before .before .before .before .before .if3 .left), le-ltb _ 8 (c .before .before .before .before .before .before .before .if4 .left), le-ltb _ 10 (c .before .before .before .before .before .before .if5 .left), ne-eqb _ 10 (c .before .before .before .before .before .if6 .left), ne-eqb _ 41 (c .before .before .before .before .if7 .left), ne-eqb _ 42 (c .before .before .before .if8 .left), ne-eqb _ 43 (c .before .before .if9 .left), le-ltb _ 44 (c .before .if10 .left)) (c .leaf2 .ensures)
 
 pub agrees-spec : {M : Type 1} → statement M
 agrees-spec =
@@ -123,4 +132,6 @@ agrees-spec =
     set-tool-requires
     returns-9
     leaf-requires
-    returns-10)
+    returns-10
+    leaf-requires-2
+    returns-11)

@@ -13,7 +13,7 @@ use Rattle.replay.proofs.damage.damage.Statement.{statement}
 use Rattle.replay.proofs.damage.damage.Tie as tie
 
 abbrev Inv-loop : tie.InvT-loop
-Inv-loop s n at₀ i₀ at i = (i ≤ n) × (at ≡ recordAt s i) × (at ≤ 2 + 1114133 * i) × (damageTo listsOf lastCall s i ≡ 0)
+Inv-loop s n at₀ i₀ at i = (i ≤ n) × (at ≡ recordAt s i) × (at ≤ 2 + 1179670 * i) × (damageTo listsOf lastCall s i ≡ 0)
 
 abbrev μ-loop : tie.MeasureT-loop
 μ-loop s n at₀ i₀ at i = n - i

@@ -12,7 +12,7 @@ use Rattle.replay.proofs.tally.tally.Tie as tie
 
 abbrev Inv-loop : tie.InvT-loop
 Inv-loop s call n t₀ at₀ i₀ t at i =
-    (i ≤ n) × (at ≡ recordAt s i) × (at ≤ 2 + 1114133 * i)
+    (i ≤ n) × (at ≡ recordAt s i) × (at ≤ 2 + 1179670 * i)
     × (t .cases ≡ sumOf (λ k. isCase s call (recordAt s k)) i) × (t .differ ≡ sumOf (λ k. isDifferent (agreesAt s k) s call (recordAt s k)) i) × (t .cases ≤ i) × (t .differ ≤ i)
 
 abbrev μ-loop : tie.MeasureT-loop

@@ -4,11 +4,11 @@ use borrow.Author.Needs.{needs}
 use Rattle.replay_calls.proofs.arm_cases.set_tool.Statement.{statement}
 use Rattle.replay_calls.proofs.arm_cases.set_tool.Tie as tie
 
+list-number-requires : tie.Need-list-number-requires
+list-number-requires c κs = search needs
+
 list-requires : tie.Need-list-requires
 list-requires c κs = search needs
-
-number-at-requires : tie.Need-number-at-requires
-number-at-requires c κs = search needs
 
 list-requires-2 : tie.Need-list-requires-2
 list-requires-2 c κs = search needs
@@ -21,12 +21,6 @@ list-requires-4 c κs = search needs
 
 list-requires-5 : tie.Need-list-requires-5
 list-requires-5 c κs = search needs
-
-list-requires-6 : tie.Need-list-requires-6
-list-requires-6 c κs = search needs
-
-cast-set-tool : tie.Need-cast-set-tool
-cast-set-tool c = search needs
 
 set-tool-requires : tie.Need-set-tool-requires
 set-tool-requires c κs = search needs
@@ -42,14 +36,12 @@ pub set-tool-spec : {M : Type 1} → statement M
 set-tool-spec =
     tie.close
     (tie.spec
+    list-number-requires
     list-requires
-    number-at-requires
     list-requires-2
     list-requires-3
     list-requires-4
     list-requires-5
-    list-requires-6
-    cast-set-tool
     set-tool-requires
     none-requires
     returns)

@@ -31,7 +31,11 @@ returns-6 c = (rw (le-ltb _ 2 (c .before .before .before .before .before .if1 .l
 
 returns-7 : tie.Need-returns-7
 unfolding outputsOf
-returns-7 c = (rw (le-ltb _ 2 (c .before .before .before .before .before .if1 .left), le-ltb _ 6 (c .before .before .before .before .if2 .left), le-ltb _ 8 (c .before .before .before .if3 .left), le-ltb _ 10 (c .before .before .if4 .left), ne-eqb _ 10 (c .before .if5 .left), le-ltb _ 42 (c .if6 .left)), omega arith)
+returns-7 c = (rw (le-ltb _ 2 (c .before .before .before .before .before .before .if1 .left), le-ltb _ 6 (c .before .before .before .before .before .if2 .left), le-ltb _ 8 (c .before .before .before .before .if3 .left), le-ltb _ 10 (c .before .before .before .if4 .left), ne-eqb _ 10 (c .before .before .if5 .left), le-ltb _ 42 (c .before .if6 .left), lt-ltb _ 44 (c .if7 .taken)), omega arith)
+
+returns-8 : tie.Need-returns-8
+unfolding outputsOf
+returns-8 c = (rw (le-ltb _ 2 (c .before .before .before .before .before .before .if1 .left), le-ltb _ 6 (c .before .before .before .before .before .if2 .left), le-ltb _ 8 (c .before .before .before .before .if3 .left), le-ltb _ 10 (c .before .before .before .if4 .left), ne-eqb _ 10 (c .before .before .if5 .left), le-ltb _ 42 (c .before .if6 .left), le-ltb _ 44 (c .if7 .left)), omega arith)
 
 pub outputs-spec : {M : Type 1} → statement M
-outputs-spec = tie.close (tie.spec returns returns-2 returns-3 returns-4 returns-5 returns-6 returns-7)
+outputs-spec = tie.close (tie.spec returns returns-2 returns-3 returns-4 returns-5 returns-6 returns-7 returns-8)

@@ -1,10 +1,11 @@
 -- `answered` meets its contract: the number, then the value.
-use mathlib.Core.Path.{ap}
+use mathlib.Core.Path.{_≡_, ap}
 use mathlib.Core.List.{[], _∷_}
+use Prim.Native.Nat.{_+_}
+use native.Mathlib.Omega.{arith}
 use lib.Ieee.{Float}
 use Rattle.lent_bytes.specs.Lent.{bytesOf}
 use Rattle.stored_answers.specs.Agree.{agrees-begin, agrees-on}
-use Rattle.sequences.specs.Table.{outputs}
 use borrow.Author.Needs.{needs}
 use Rattle.sequences.proofs.agree.answered.Statement.{statement}
 use Rattle.sequences.proofs.agree.answered.Tie as tie
@@ -32,7 +33,9 @@ floats-requires c κs = search needs
 
 returns : tie.Need-returns
 returns c =
-    agrees-on _ _ _ outputs [] (agrees-begin _ _ outputs (c .before .before .before .number .ensures) (c .before .before .before .before .number-of .ensures)) (ap (λ (v : Float). bytesOf (v ∷ [])) (c .before .before .value .ensures)) (c .floats .ensures)
+    let k = c .before .before .before .before .before .before .args .k in
+    let z : k + 0 ≡ k = omega arith in
+    agrees-on _ _ _ k [] (agrees-begin _ _ k (c .before .before .before .number .ensures) (c .before .before .before .before .number-of .ensures)) (ap (λ (v : Float). bytesOf (v ∷ [])) (c .before .before .value .ensures)) (rw z (c .floats .ensures))
 
 pub answered-spec : {M : Type 1} → statement M
 answered-spec =

@@ -4,7 +4,7 @@ use native.Mathlib.Omega.{arith}
 use lib.Seq.{length-take-le}
 use Rattle.stored_answers.specs.Stored.{listOf}
 use Prim.Native.Nat.{_+_}
-use Rattle.sequences.specs.Table.{outputs}
+use Rattle.sequences.specs.Table.{objectiveOutputs}
 use Rattle.sequences.specs.Lists.{front-floats}
 use borrow.Author.Needs.{needs}
 use Rattle.sequences.proofs.steps.gradient.Statement.{statement}
@@ -45,8 +45,8 @@ gradient-requires c κs =
     let o = listOf (m .args .s .now) (m .args .at) in (
       m .pre,
       (
-        front-floats (o (outputs + 1)) _ 8192 (c .before .before .before .buffer .ensures .0) (c .before .before .before .before .before .room .ensures .0) (omega (arith, c .before .before .before .before .before .room .ensures .1)),
-        front-floats (o (outputs + 2)) _ 8192 (c .before .before .buffer2 .ensures .0) (c .before .before .before .before .room2 .ensures .0) (omega (arith, c .before .before .before .before .room2 .ensures .1)),
+        front-floats (o (objectiveOutputs + 1)) _ 8192 (c .before .before .before .buffer .ensures .0) (c .before .before .before .before .before .room .ensures .0) (omega (arith, c .before .before .before .before .before .room .ensures .1)),
+        front-floats (o (objectiveOutputs + 2)) _ 8192 (c .before .before .buffer2 .ensures .0) (c .before .before .before .before .room2 .ensures .0) (omega (arith, c .before .before .before .before .room2 .ensures .1)),
       ),
     )
 

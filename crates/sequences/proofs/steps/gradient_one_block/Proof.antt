@@ -5,7 +5,7 @@ use lib.Seq.{length-take-le}
 use Rattle.stored_answers.specs.Stored.{listOf}
 use Prim.Native.Nat.{_+_}
 use Rattle.lent_bytes.specs.Lent.{floatsIn}
-use Rattle.sequences.specs.Table.{outputs}
+use Rattle.sequences.specs.Table.{objectiveOutputs}
 use Rattle.sequences.specs.Lists.{front-floats, front-numbers}
 use borrow.Author.Needs.{needs}
 use Rattle.sequences.proofs.steps.gradient_one_block.Statement.{statement}
@@ -89,10 +89,10 @@ gradient-one-block-requires c κs =
     let o = listOf (m .args .s .now) (m .args .at) in (
       (m .pre, c .before .before .before .before .before .before .before .before .before .before .before .before .before .before .floats .ensures .held ∙ ap (floatsIn 64) (c .before .before .before .before .before .before .before .before .before .before .before .before .before .before .before .before .list .ensures .0)),
       (
-        front-floats (o (outputs + 2)) _ 8192 (c .before .before .before .before .before .before .before .before .buffer .ensures .0) (c .before .before .before .before .before .before .before .before .before .before .before .before .room .ensures .0) (omega (arith, c .before .before .before .before .before .before .before .before .before .before .before .before .room .ensures .1)),
-        front-numbers (o (outputs + 3)) _ 32768 (c .before .before .before .before .before .before .before .number-buffer .ensures .0) (c .before .before .before .before .before .before .before .before .before .before .before .number-room .ensures .0) (omega (arith, c .before .before .before .before .before .before .before .before .before .before .before .number-room .ensures .1)),
-        front-numbers (o (outputs + 4)) _ 32768 (c .before .before .before .before .before .before .number-buffer2 .ensures .0) (c .before .before .before .before .before .before .before .before .before .before .number-room2 .ensures .0) (omega (arith, c .before .before .before .before .before .before .before .before .before .before .number-room2 .ensures .1)),
-        front-floats (o (outputs + 5)) _ 8192 (c .before .before .before .before .before .buffer2 .ensures .0) (c .before .before .before .before .before .before .before .before .before .room2 .ensures .0) (omega (arith, c .before .before .before .before .before .before .before .before .before .room2 .ensures .1)),
+        front-floats (o (objectiveOutputs + 2)) _ 8192 (c .before .before .before .before .before .before .before .before .buffer .ensures .0) (c .before .before .before .before .before .before .before .before .before .before .before .before .room .ensures .0) (omega (arith, c .before .before .before .before .before .before .before .before .before .before .before .before .room .ensures .1)),
+        front-numbers (o (objectiveOutputs + 3)) _ 32768 (c .before .before .before .before .before .before .before .number-buffer .ensures .0) (c .before .before .before .before .before .before .before .before .before .before .before .number-room .ensures .0) (omega (arith, c .before .before .before .before .before .before .before .before .before .before .before .number-room .ensures .1)),
+        front-numbers (o (objectiveOutputs + 4)) _ 32768 (c .before .before .before .before .before .before .number-buffer2 .ensures .0) (c .before .before .before .before .before .before .before .before .before .before .number-room2 .ensures .0) (omega (arith, c .before .before .before .before .before .before .before .before .before .before .number-room2 .ensures .1)),
+        front-floats (o (objectiveOutputs + 5)) _ 8192 (c .before .before .before .before .before .buffer2 .ensures .0) (c .before .before .before .before .before .before .before .before .before .room2 .ensures .0) (omega (arith, c .before .before .before .before .before .before .before .before .before .room2 .ensures .1)),
       ),
     )
 

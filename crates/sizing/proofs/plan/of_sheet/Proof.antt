@@ -18,7 +18,7 @@ entries-requires c κs = search needs
 
 returns : tie.Need-returns
 returns c =
-    plan-made _ _ _ _ _ _
+    plan-made _ _ _ _ _ _ _
     (c .before .before .before .positions-length .ensures)
     (c .before .before .rotations-length .ensures)
     (c .before .objective-count .ensures)

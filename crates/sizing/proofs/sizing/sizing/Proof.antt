@@ -22,7 +22,7 @@ sizing-refusal-requires c κs = search needs
 returns : tie.Need-returns
 returns c =
     let e = c .before .sizing-refusal .ensures in
-    ap Refused e ∙ sym (sizing-refused _ _ _ (λ z. c .if1 .taken (e ∙ z)))
+    ap Refused e ∙ sym (sizing-refused _ _ _ _ (λ z. c .if1 .taken (e ∙ z)))
 
 links-requires : tie.Need-links-requires
 links-requires c κs = search needs
@@ -31,13 +31,13 @@ of-sheet-requires : tie.Need-of-sheet-requires
 of-sheet-requires c κs =
     let e = c .before in
     let a = S e .args in
-    rw (c .links .ensures) (sizing-accepted (now (a .sizes)) (now (a .codes)) (now (a .floats)) (taken e))
+    rw (c .links .ensures) (sizing-accepted (a .picks) (now (a .sizes)) (now (a .codes)) (now (a .floats)) (taken e))
 
 returns-2 : tie.Need-returns-2
 returns-2 c =
     let e = c .before .before in
     let a = S e .args in
-    ap Planned (c .of-sheet .ensures ∙ ap (λ (ns : List ℕ). planOf ns (now (a .codes))) (c .before .links .ensures)) ∙ sym (sizing-taken _ _ _ (taken e))
+    ap Planned (c .of-sheet .ensures ∙ ap (λ (ns : List ℕ). planOf (a .picks) ns (now (a .codes))) (c .before .links .ensures)) ∙ sym (sizing-taken _ _ _ _ (taken e))
 
 pub sizing-spec : {M : Type 1} → statement M
 sizing-spec = tie.close (tie.spec sizing-refusal-requires returns links-requires of-sheet-requires returns-2)

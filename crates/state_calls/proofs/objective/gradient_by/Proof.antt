@@ -49,12 +49,12 @@ returns c =
     let e = c .before .before .before .before .before .before .before .before .before .before .before .before .lay-task .ensures in (
       m .ensures .0,
       (
-        m .ensures .1 .0 ∙ value-laid (a .state) _ _ (lists s) refl e x _ _ (m .ensures .0),
+        m .ensures .1 .0 ∙ value-laid (a .state) _ _ _ (lists s) refl e x _ _ (m .ensures .0),
         (
           m .ensures .1 .1 .0,
           (
             m .ensures .1 .1 .1 .0,
-            m .ensures .1 .1 .1 .1 ∙ slopes-laid (a .state) _ _ (lists s) refl e x _ _ (m .ensures .0) (a .rule) (now (a .slopes)),
+            m .ensures .1 .1 .1 .1 ∙ slopes-laid (a .state) _ _ _ (lists s) refl e x _ _ (m .ensures .0) (a .rule) (now (a .slopes)),
           ),
         ),
       ),

@@ -59,11 +59,11 @@ returns c =
     let e = c .before .before .before .before .before .before .before .before .before .before .before .before .before .before .before .before .before .before .before .before .before .lay-task .ensures in (
       m .ensures .0,
       (
-        (m .ensures .1 .0 .0 ∙ value-laid (a .state) _ _ (lists s) refl e x _ _ (m .ensures .0), m .ensures .1 .0 .1),
+        (m .ensures .1 .0 .0 ∙ value-laid (a .state) _ _ _ (lists s) refl e x _ _ (m .ensures .0), m .ensures .1 .0 .1),
         (
           m .ensures .1 .1 .0,
           (
-            m .ensures .1 .1 .1 .0 ∙ slopes-laid (a .state) _ _ (lists s) refl e x _ _ (m .ensures .0) EachLoss (now (a .slopes)),
+            m .ensures .1 .1 .1 .0 ∙ slopes-laid (a .state) _ _ _ (lists s) refl e x _ _ (m .ensures .0) EachLoss (now (a .slopes)),
             m .ensures .1 .1 .1 .1,
           ),
         ),

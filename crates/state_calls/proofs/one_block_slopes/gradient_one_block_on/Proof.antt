@@ -103,7 +103,7 @@ returns-2 c =
         (
           m .ensures .1 .0 .0
               ∙ parts-are (now (a .sizes)) (now (a .codes)) (now (a .floats)) n (U e)
-              (λ ns ks gs. valueIf (numberOf (m .result)) (valueAt (givenOf ns ks (now (a .task))) gs x)),
+              (λ ns ks gs. valueIf (numberOf (m .result)) (valueAt (givenOf ns ks (now (a .task)) (a .picks)) gs x)),
           m .ensures .1 .0 .1,
         ),
         (
@@ -112,7 +112,7 @@ returns-2 c =
             m .ensures .1 .1 .1 .0
                 ∙ parts-are (now (a .sizes)) (now (a .codes)) (now (a .floats)) n (U e)
                 (λ ns ks gs. ifTaken (numberOf (m .result)) (now (a .slopes)) (splice (now (a .slopes)) 0
-                (gradientOf (givenOf ns ks (now (a .task))) gs x))),
+                (gradientOf (givenOf ns ks (now (a .task)) (a .picks)) gs x))),
             (
               r .0
                   ∙ parts-are (now (a .sizes)) (now (a .codes)) (now (a .floats)) n (U e)

@@ -86,12 +86,12 @@ returns-2 c =
       m .ensures .0 ∙ parts-are (now (a .sizes)) (now (a .codes)) (now (a .floats)) n (U e) (λ ns ks gs. slopesRefusal ks x (length (now (a .scratch))) (length (now (a .slopes))))
           ∙ sym (state-passed _ _ _ (e .before .before .in-use .ensures) _ _ _ (e .before .state-refusal .ensures) _ (e .if1 .left)),
       (
-        m .ensures .1 .0 ∙ parts-are (now (a .sizes)) (now (a .codes)) (now (a .floats)) n (U e) (λ ns ks gs. valueIf (numberOf (m .result)) (valueAt (givenOf ns ks (now (a .task))) gs x)),
+        m .ensures .1 .0 ∙ parts-are (now (a .sizes)) (now (a .codes)) (now (a .floats)) n (U e) (λ ns ks gs. valueIf (numberOf (m .result)) (valueAt (givenOf ns ks (now (a .task)) (a .picks)) gs x)),
         (
           m .ensures .1 .1 .0,
           (
             m .ensures .1 .1 .1 .0,
-            m .ensures .1 .1 .1 .1 ∙ parts-are (now (a .sizes)) (now (a .codes)) (now (a .floats)) n (U e) (λ ns ks gs. ifTaken (numberOf (m .result)) (now (a .slopes)) (splice (now (a .slopes)) 0 (slopesOf (S e .args .rule) (givenOf ns ks (now (a .task))) gs x))),
+            m .ensures .1 .1 .1 .1 ∙ parts-are (now (a .sizes)) (now (a .codes)) (now (a .floats)) n (U e) (λ ns ks gs. ifTaken (numberOf (m .result)) (now (a .slopes)) (splice (now (a .slopes)) 0 (slopesOf (S e .args .rule) (givenOf ns ks (now (a .task)) (a .picks)) gs x))),
           ),
         ),
       ),

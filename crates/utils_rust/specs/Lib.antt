@@ -1,0 +1,3 @@
+pub mod Acos
+pub mod Transformations
+pub mod Values
