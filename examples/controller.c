@@ -1,5 +1,5 @@
 /* The rig's loop on the proved library: reserve the lists, load the arm, set weights, the sonde on the flange and its goal, reset, then round
- * after round a gradient, a small step down and an update.
+ * after round a gradient, a small step down and an update. Once the collar is surveyed the goal is strict, and the rounds go on.
  *
  *   cc -std=c99 -Iinclude examples/controller.c target/staticlib/libexports.a -o controller
  *
@@ -17,7 +17,7 @@ enum {
     CHAINS = 1,
     LINKS = 9,
     JOINTS = 7,
-    ROUNDS = 200
+    ROUNDS = 200 /* with each list of objectives */
 };
 
 #define MOST_MOVE 0.02 /* of a joint in one round */
@@ -96,6 +96,7 @@ static int reserved;
 #define NO_TOOL (const uint8_t *)tool.at, 0
 
 static size_t tool_bytes; /* 0 until a tool is set */
+static uint32_t list = RELAXED_IK_TOLERANCE_LIST; /* of objectives, by which the rounds go */
 static unsigned long calls;
 
 #ifdef GUARDED
@@ -227,11 +228,19 @@ static int little_endian(void) {
     name.after = name.at + name.length;           \
     next = name.after + GUARD;
 
-/* Once, at the start: asks how long the lists have to be, and carves them out of the pool. */
+/* Asks how long the lists have to be, and how many objectives there are by the list in force. */
+static int size(void) {
+    if (!taken("sizing", ASK(relaxed_ik_sizing(READ(sizes), READ(codes), READ(floats), WRITE(plan), list)))) return 0;
+    printf("planned: %u objectives, goals %s\n", (unsigned)plan.at[RELAXED_IK_PLAN_OBJECTIVES],
+        list == RELAXED_IK_TOLERANCE_LIST ? "within tolerances" : "strict");
+    return 1;
+}
+
+/* Once, at the start: carves the lists out of the pool as they are planned. */
 static int reserve(void) {
     uint8_t *next = pool;
     size_t needed = 0;
-    if (!taken("sizing", ASK(relaxed_ik_sizing(READ(sizes), READ(codes), READ(floats), WRITE(plan))))) return 0;
+    if (!size()) return 0;
     PLANNED_LISTS(ADD)
     if (needed > POOL_BYTES) {
         printf("the pool is too small: the lists need %lu bytes, it has %lu\n", (unsigned long)needed, (unsigned long)POOL_BYTES);
@@ -312,6 +321,27 @@ static void print_end(const char *when) {
     printf("%s: end at %.4f %.4f %.4f, rotation %.4f %.4f %.4f %.4f\n", when, e[0], e[1], e[2], e[3], e[4], e[5], e[6]);
 }
 
+/* Where the end is by now, and how far from its goal. */
+static int print_off(const char *when) {
+    const double *e = ends.at, *g = goals.at;
+    if (!pose()) return 0;
+    print_end(when);
+    printf("%s: %.4f m and %.4f rad from the goal\n", when, relaxed_ik_norm(e[0] - g[0], e[1] - g[1], e[2] - g[2]),
+        relaxed_ik_angle_between_quaternion(g[3], g[4], g[5], g[6], e[3], e[4], e[5], e[6]));
+    return 1;
+}
+
+/* The goal: where the sonde's tip is when the arm stands at the taught block. */
+static int aim(void) {
+    memcpy(joints.at, taught, sizeof taught);
+    if (!pose()) return 0;
+    memcpy(goals.at, ends.at, sizeof ends.at);
+    memcpy(goals.at + RELAXED_IK_POSE_FLOATS, tolerances, sizeof tolerances);
+    if (!taken("set goals", ASK(relaxed_ik_set_goals(SHEET, READ(goals))))) return 0;
+    print_end("goal set");
+    return 1;
+}
+
 /* The block at hand becomes the history's first. The call never writes to the list it reads, so the new one is copied back. */
 static int update(void) {
     if (!taken("update", ASK(relaxed_ik_update(SHEET, READ(history), READ(joints), WRITE(new_history))))) return 0;
@@ -323,21 +353,21 @@ static double within(double v, double low, double high) {
     return v < low ? low : v > high ? high : v;
 }
 
-static int rounds(void) {
+static int rounds(int first) {
     double rate = 0.001, last = 0.0, e[RELAXED_IK_POSE_FLOATS];
     uint16_t link, joint;
     int round, i;
-    for (round = 0; round < ROUNDS; round++) {
+    for (round = first; round < first + ROUNDS; round++) {
         if (!taken("gradient", ASK(relaxed_ik_gradient_one_block(SHEET, READ(goals), READ(history), READ(weights), TOOLS, READ(joints),
                                    WRITE(value), WRITE(slopes), WRITE_PART(record_joints), WRITE_PART(record_links),
-                                   WRITE_PART(record_poses)))))
+                                   WRITE_PART(record_poses), list))))
             return 0;
-        if (round % 25 == 0 || round == ROUNDS - 1) {
+        if (round % 25 == 0 || round == first + ROUNDS - 1) {
             /* The record stops at the last link: the first walk's last pose is the flange's, and no further call is needed for it. */
             copy_out(e, record_poses, LINKS - 1, sizeof e);
             printf("round %3d: objective %10.5f, flange at %.4f %.4f %.4f\n", round, value.at[0], e[0], e[1], e[2]);
         }
-        if (round > 0 && value.at[0] > last) rate *= 0.7;
+        if (round > first && value.at[0] > last) rate *= 0.7;
         last = value.at[0];
         for (i = 0; i < JOINTS; i++) {
             double to = joints.at[i] - within(rate * slopes.at[i], -MOST_MOVE, MOST_MOVE);
@@ -351,9 +381,35 @@ static int rounds(void) {
     return 1;
 }
 
-int main(void) {
-    double good;
+/* The collar is surveyed: from here on the goal has no tolerance. The lists were carved by the plan of the other list of objectives, and
+ * serve if this plan has no more entries. */
+static int survey(void) {
+    size_t carved = ENTRIES;
+    list = RELAXED_IK_STRICT_LIST;
+    if (!size()) return 0;
+    if (ENTRIES > carved) {
+        printf("the record is too short: %lu entries, %lu are carved\n", (unsigned long)ENTRIES, (unsigned long)carved);
+        return 0;
+    }
+    return 1;
+}
+
+/* A block that the arm must not take: the number says why, the history stays, and the arm goes on from the last good block. */
+static int misread(void) {
+    double good = joints.at[0];
     uint32_t answer;
+    joints.at[0] = 9.0;
+    memset(new_history.at, 0, sizeof new_history.at);
+    answer = ASK(relaxed_ik_update(SHEET, READ(history), READ(joints), WRITE(new_history)));
+    taken("an encoder says 9 rad", answer);
+    if (answer != RELAXED_IK_WRONG_JOINTS || new_history.at[0] != 0.0) return 0;
+    joints.at[0] = good;
+    if (!update()) return 0;
+    puts("back at the last good block");
+    return 1;
+}
+
+int main(void) {
     if (!little_endian()) {
         puts("this program lends its lists as they lie in memory, which is not little-endian here");
         return 2;
@@ -364,37 +420,19 @@ int main(void) {
     printf("loaded: %d chain, %d links, %d joints\n", CHAINS, LINKS, JOINTS);
     if (!weigh()) return 1;
     if (!equip()) return 1;
-
-    /* The goal: where the sonde's tip is when the arm stands at the taught block. */
-    memcpy(joints.at, taught, sizeof taught);
-    if (!pose()) return 1;
-    memcpy(goals.at, ends.at, sizeof ends.at);
-    memcpy(goals.at + RELAXED_IK_POSE_FLOATS, tolerances, sizeof tolerances);
-    if (!taken("set goals", ASK(relaxed_ik_set_goals(SHEET, READ(goals))))) return 1;
-    print_end("goal set");
+    if (!aim()) return 1;
 
     memcpy(joints.at, start, sizeof start);
     if (!taken("reset", ASK(relaxed_ik_reset(SHEET, TOOLS, READ(joints), WRITE(history), WRITE(ends))))) return 1;
     print_end("reset");
 
-    if (!rounds()) return 1;
-    if (!pose()) return 1;
-    print_end("after the rounds");
+    if (!rounds(0) || !print_off("over the collar")) return 1;
+    if (!survey() || !rounds(ROUNDS) || !print_off("surveyed")) return 1;
 
     if (!taken("manipulability", ASK(relaxed_ik_manipulability(SHEET, READ(joints), WRITE(value))))) return 1;
     printf("manipulability %.6f\n", value.at[0]);
 
-    /* A block that the arm must not take: the number says why, the history stays, and the arm goes on from the last good block. */
-    good = joints.at[0];
-    joints.at[0] = 9.0;
-    memset(new_history.at, 0, sizeof new_history.at);
-    answer = ASK(relaxed_ik_update(SHEET, READ(history), READ(joints), WRITE(new_history)));
-    taken("an encoder says 9 rad", answer);
-    if (answer != RELAXED_IK_WRONG_JOINTS || new_history.at[0] != 0.0) return 1;
-    joints.at[0] = good;
-    if (!update()) return 1;
-    puts("back at the last good block");
-
+    if (!misread()) return 1;
     printf("%lu calls\n", calls);
 #ifdef GUARDED
     printf("%lu faults\n", faults);

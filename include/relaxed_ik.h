@@ -27,6 +27,13 @@
  * is not loaded is refused, whatever it holds. relaxed_ik_set_tool looks at one tool before it is put to use; there an empty list is refused
  * too.
  *
+ * Strict goals. The objective, its slopes and the plan take a number behind their lists, by which the caller picks the list of objectives: 0
+ * is the tolerance list, any other number the strict list. In the tolerance list a chain's goal makes six objectives, one for each of its
+ * tolerances; in the strict list it makes two, of the end's distance from the goal's position and of the angle between their rotations, and
+ * tolerances count for nothing. Goals have 13 floats all the same and are refused as ever. The weights of position and rotation serve for
+ * either list, and everything else is summed as it was; the plan's objectives are those of the list that is picked, 4 fewer a chain if it is
+ * the strict one.
+ *
  * Answers. A call on lists answers 0 if it was taken, or the number of the refusal, and then every list is as it was. Where several refusals
  * hold, the lowest is the answer. The calls keep no state: everything is lent each time, and the answer depends on nothing else.
  *
@@ -59,6 +66,11 @@ extern "C" {
 #define RELAXED_IK_TOO_SHORT 9       /* a list to be written is too short, or no whole number of elements */
 #define RELAXED_IK_WRONG_WEIGHTS 10  /* not eight, or a value not within 0..1000 */
 #define RELAXED_IK_WRONG_TOOL 11     /* not seven, displacement or offset as in 6, or a chain that is not loaded */
+
+/* ---- the list of objectives that a call is to go by */
+
+#define RELAXED_IK_TOLERANCE_LIST 0  /* six objectives a chain for its goal, each under its tolerance */
+#define RELAXED_IK_STRICT_LIST 1     /* two, without tolerance; so is every number but 0 */
 
 /* ---- fixed lengths, in elements */
 
@@ -108,15 +120,16 @@ uint32_t relaxed_ik_load(
     const uint8_t *limits, size_t limits_length);
 
 /* How many floats the frame lists have, how many objectives there are and how many entries the record has, without a walk. Lent: sizes,
- * codes, floats; no limits. Comes back: the plan, four u16s: the floats of the positions and of the rotations of relaxed_ik_frames, the
- * objectives, and the entries of the record of relaxed_ik_gradient_one_block, a u16 an entry in its joints and in its links and 7 floats in
- * its poses. A list of the planned length is never refused as too short; with one element fewer it always is, where no lower number holds.
- * Answers 0 to 4, 6, 9. */
+ * codes, floats, no limits, and the list picked. Comes back: the plan, four u16s: the floats of the positions and of the rotations of
+ * relaxed_ik_frames, the objectives of the list picked, and the entries of the record of relaxed_ik_gradient_one_block, a u16 an entry in
+ * its joints and in its links and 7 floats in its poses. A list of the planned length is never refused as too short; with one element fewer
+ * it always is, where no lower number holds. Answers 0 to 4, 6, 9. */
 uint32_t relaxed_ik_sizing(
     const uint8_t *sizes, size_t sizes_length,
     const uint8_t *codes, size_t codes_length,
     const uint8_t *floats, size_t floats_length,
-    uint8_t *plan, size_t plan_length);
+    uint8_t *plan, size_t plan_length,
+    uint32_t strict);
 
 /* Looks at goals. Lent: the sheet, goals. Comes back: the number alone. Answers 0 to 6, 8. */
 uint32_t relaxed_ik_set_goals(
@@ -201,7 +214,7 @@ uint32_t relaxed_ik_update(
 uint32_t relaxed_ik_set_weights(
     const uint8_t *weights, size_t weights_length);
 
-/* The objective. Lent: the sheet, goals, history, weights, tools, joints. Comes back: one float. Answers 0 to 11. */
+/* The objective. Lent: the sheet, goals, history, weights, tools, joints, and the list picked. Comes back: one float. Answers 0 to 11. */
 uint32_t relaxed_ik_objective(
     const uint8_t *sizes, size_t sizes_length,
     const uint8_t *codes, size_t codes_length,
@@ -215,10 +228,11 @@ uint32_t relaxed_ik_objective(
     const uint8_t *tool2, size_t tool2_length,
     const uint8_t *tool3, size_t tool3_length,
     const uint8_t *joints, size_t joints_length,
-    uint8_t *value, size_t value_length);
+    uint8_t *value, size_t value_length,
+    uint32_t strict);
 
-/* The objective and its slopes by steps of 1e-7, loss by loss. Lent: the sheet, goals, history, weights, tools, joints. Comes back: scratch,
- * a float a joint, which ends equal to the joints; the value, one float; the slopes, one a joint. Answers 0 to 11. */
+/* The objective and its slopes by steps of 1e-7, loss by loss. Lent: the sheet, goals, history, weights, tools, joints, and the list picked.
+ * Comes back: scratch, a float a joint, which ends equal to the joints; the value, one float; the slopes, one a joint. Answers 0 to 11. */
 uint32_t relaxed_ik_gradient(
     const uint8_t *sizes, size_t sizes_length,
     const uint8_t *codes, size_t codes_length,
@@ -234,9 +248,10 @@ uint32_t relaxed_ik_gradient(
     const uint8_t *joints, size_t joints_length,
     uint8_t *scratch, size_t scratch_length,
     uint8_t *value, size_t value_length,
-    uint8_t *slopes, size_t slopes_length);
+    uint8_t *slopes, size_t slopes_length,
+    uint32_t strict);
 
-/* The objective and its slopes by steps of 1e-6 of the whole. The lists are those of relaxed_ik_gradient. Answers 0 to 11. */
+/* The objective and its slopes by steps of 1e-6 of the whole. The lists and the pick are those of relaxed_ik_gradient. Answers 0 to 11. */
 uint32_t relaxed_ik_gradient_finite_diff(
     const uint8_t *sizes, size_t sizes_length,
     const uint8_t *codes, size_t codes_length,
@@ -252,12 +267,14 @@ uint32_t relaxed_ik_gradient_finite_diff(
     const uint8_t *joints, size_t joints_length,
     uint8_t *scratch, size_t scratch_length,
     uint8_t *value, size_t value_length,
-    uint8_t *slopes, size_t slopes_length);
+    uint8_t *slopes, size_t slopes_length,
+    uint32_t strict);
 
 /* What relaxed_ik_gradient answers, bit for bit, without scratch, and the record of the links it walked. Lent: the sheet, goals, history,
- * weights, tools, joints. Comes back: the value, one float; the slopes, one a joint; the record as three parallel lists, in the order
- * walked: the joint raised (u16; 65535 in the first walk), the link (u16), both numbered across chains, and the pose after that link (7
- * floats). The record has all links, then for each joint those from its own to its chain's last. Answers 0 to 11. */
+ * weights, tools, joints, and the list picked. Comes back: the value, one float; the slopes, one a joint; the record as three parallel lists,
+ * in the order walked: the joint raised (u16; 65535 in the first walk), the link (u16), both numbered across chains, and the pose after that
+ * link (7 floats). The record has all links, then for each joint those from its own to its chain's last, whichever list is picked. Answers 0
+ * to 11. */
 uint32_t relaxed_ik_gradient_one_block(
     const uint8_t *sizes, size_t sizes_length,
     const uint8_t *codes, size_t codes_length,
@@ -275,7 +292,8 @@ uint32_t relaxed_ik_gradient_one_block(
     uint8_t *slopes, size_t slopes_length,
     uint8_t *record_joints, size_t record_joints_length,
     uint8_t *record_links, size_t record_links_length,
-    uint8_t *record_poses, size_t record_poses_length);
+    uint8_t *record_poses, size_t record_poses_length,
+    uint32_t strict);
 
 /* ---- the parts, each as a function of numbers
  *
@@ -294,6 +312,9 @@ double relaxed_ik_exp(double y);
 
 /* The angle of n over w, n > 0 and w >= 0. */
 double relaxed_ik_atan2(double n, double w);
+
+/* The angle whose cosine is w, -1 < w < 1. */
+double relaxed_ik_acos(double w);
 
 /* The 20th and the 30th power. */
 double relaxed_ik_power20(double a);
@@ -322,6 +343,14 @@ double relaxed_ik_get_quat(uint32_t axis, double v, uint32_t part);
 /* A quaternion's axis times its angle. */
 double relaxed_ik_scaled_axis(double w, double i, double j, double k, uint32_t part);
 
+/* A quaternion divided by its length. */
+double relaxed_ik_from_quaternion(double w, double i, double j, double k, uint32_t part);
+
+/* A quaternion's logarithm, that of the turn from the first quaternion to the second, and the angle of that turn. */
+double relaxed_ik_quaternion_log(double w, double i, double j, double k, uint32_t part);
+double relaxed_ik_quaternion_disp(double w, double i, double j, double k, double w2, double i2, double j2, double k2, uint32_t part);
+double relaxed_ik_angle_between_quaternion(double w, double i, double j, double k, double w2, double i2, double j2, double k2);
+
 /* The distance between the segment from a to b and the one from c to d. */
 double relaxed_ik_segment_distance(double ax, double ay, double az, double bx, double by, double bz, double cx, double cy, double cz,
     double dx, double dy, double dz);
@@ -341,6 +370,10 @@ double relaxed_ik_swamp_loss(double x_val, double l_bound, double u_bound, doubl
 double relaxed_ik_loss_position(double dist, double bound);
 double relaxed_ik_loss_rotation(double angle, double bound);
 double relaxed_ik_loss_limits(double x, double l, double u);
+
+/* The losses of a strict goal: of its position and an end's, and of its rotation and an end's, which counts by the nearer of its two signs. */
+double relaxed_ik_loss_pos_goals(double gx, double gy, double gz, double x, double y, double z);
+double relaxed_ik_loss_quat_goals(double gw, double gi, double gj, double gk, double w, double i, double j, double k);
 
 #ifdef __cplusplus
 }

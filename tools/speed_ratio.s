@@ -13,17 +13,17 @@ speed_ratio_take:                       # 0: before, 1: after
     mov %rax, taken(%rip)
     ret
 
-    .globl speed_ratio_tools
-    .type speed_ratio_tools, @function
-speed_ratio_tools:                      # whether that build's calls are lent tools: 'before_tools' and 'after_tools' are set to 0 or 1
+    .globl speed_ratio_strict
+    .type speed_ratio_strict, @function
+speed_ratio_strict:                     # whether that build's calls have the strict list: 'before_strict' and 'after_strict' are set to 0 or 1
     mov %edi, %eax
-    lea tools(%rip), %r11
+    lea strict(%rip), %r11
     movzbl (%r11, %rax), %eax
     ret
 
     .section .rodata
-tools:
-    .byte before_tools, after_tools
+strict:
+    .byte before_strict, after_strict
     .text
 
     .macro forward name

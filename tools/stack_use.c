@@ -36,7 +36,7 @@ static void report(const char *name, uint32_t number, const unsigned char *top)
     const unsigned char *p = (const unsigned char *)lowest;
     while (*p == PAINT)
         p++;
-    printf("%-24s %6ld bytes%s\n", name, (long)(top - p), number == 0 ? "" : "  (refused)");
+    printf("%-28s %6ld bytes%s\n", name, (long)(top - p), number == 0 ? "" : "  (refused)");
 }
 
 #define MEASURE(name, call)                \
@@ -44,6 +44,17 @@ static void report(const char *name, uint32_t number, const unsigned char *top)
         paint();                           \
         uint32_t number = (call);          \
         report(name, number, &top);        \
+    } while (0)
+
+/* The objective by this list, and its slopes. */
+#define MEASURE_LIST(word, list)                                                                                            \
+    do {                                                                                                                    \
+        MEASURE(word "objective", relaxed_ik_objective(STATE, OUT(value), list));                                           \
+        MEASURE(word "gradient", relaxed_ik_gradient(STATE, OUT(scratch), OUT(value), OUT(slopes), list));                  \
+        MEASURE(word "gradient_finite_diff",                                                                                \
+                relaxed_ik_gradient_finite_diff(STATE, OUT(scratch), OUT(value), OUT(slopes), list));                       \
+        MEASURE(word "gradient_one_block", relaxed_ik_gradient_one_block(STATE, OUT(value), OUT(slopes), OUT(record_joints), \
+                                                                         OUT(record_links), OUT(record_poses), list));      \
     } while (0)
 
 int main(void)
@@ -65,9 +76,9 @@ int main(void)
     goals[11] = 3.2;
     /* Once before: the first call of memset and memcpy looks them up, on the caller's stack. */
     relaxed_ik_load(SHEET);
-    relaxed_ik_gradient(STATE, OUT(scratch), OUT(value), OUT(slopes));
+    relaxed_ik_gradient(STATE, OUT(scratch), OUT(value), OUT(slopes), RELAXED_IK_TOLERANCE_LIST);
     MEASURE("load", relaxed_ik_load(SHEET));
-    MEASURE("sizing", relaxed_ik_sizing(LIST(sizes), LIST(codes), LIST(floats), OUT(plan)));
+    MEASURE("sizing", relaxed_ik_sizing(LIST(sizes), LIST(codes), LIST(floats), OUT(plan), RELAXED_IK_TOLERANCE_LIST));
     MEASURE("set_goals", relaxed_ik_set_goals(SHEET, LIST(goals)));
     MEASURE("frames", relaxed_ik_frames(SHEET, LIST(joints), OUT(positions), OUT(rotations)));
     MEASURE("pose", relaxed_ik_pose(SHEET, TOOLS, LIST(joints), OUT(ends)));
@@ -76,10 +87,7 @@ int main(void)
     MEASURE("update", relaxed_ik_update(SHEET, LIST(history), LIST(joints), OUT(blocks)));
     MEASURE("set_weights", relaxed_ik_set_weights(LIST(weights)));
     MEASURE("set_tool", relaxed_ik_set_tool(SHEET, LIST(tool), 0));
-    MEASURE("objective", relaxed_ik_objective(STATE, OUT(value)));
-    MEASURE("gradient", relaxed_ik_gradient(STATE, OUT(scratch), OUT(value), OUT(slopes)));
-    MEASURE("gradient_finite_diff", relaxed_ik_gradient_finite_diff(STATE, OUT(scratch), OUT(value), OUT(slopes)));
-    MEASURE("gradient_one_block",
-            relaxed_ik_gradient_one_block(STATE, OUT(value), OUT(slopes), OUT(record_joints), OUT(record_links), OUT(record_poses)));
+    MEASURE_LIST("", RELAXED_IK_TOLERANCE_LIST);
+    MEASURE_LIST("strict ", RELAXED_IK_STRICT_LIST);
     return 0;
 }

@@ -6,6 +6,7 @@ use reference::refusals::{self, f64s, u16s, RecordRoom, Room};
 use reference::sheet;
 use reference::sizing::{plan, PLAN};
 use reference::spacetime::robot::Robot;
+use reference::strict::Pick;
 use reference::tools::{self, tools, Tools, TOOLS};
 use reference::weights;
 
@@ -62,24 +63,26 @@ pub enum List {
     Joints,
     /// The number of the chain whose tool is set, a u16.
     Chain,
+    /// The pick of the strict list, a u16; 0 or no byte is the tolerance list.
+    Strict,
 }
 
 use List::{
-    Chain, Codes, Floats, Goals, History, Joints, Limits, Sizes, Tool0, Tool1, Tool2, Tool3,
-    Weights,
+    Chain, Codes, Floats, Goals, History, Joints, Limits, Sizes, Strict, Tool0, Tool1, Tool2,
+    Tool3, Weights,
 };
 
 /// By chain.
 pub const TOOL_LISTS: [List; TOOLS] = [Tool0, Tool1, Tool2, Tool3];
 
 /// How many there are.
-const LISTS: usize = Chain as usize + 1;
+const LISTS: usize = Strict as usize + 1;
 
 impl Call {
     pub fn read(self) -> &'static [List] {
         match self {
             Call::Load => &[Sizes, Codes, Floats, Limits],
-            Call::Sizing => &[Sizes, Codes, Floats],
+            Call::Sizing => &[Sizes, Codes, Floats, Strict],
             Call::SetGoals => &[Sizes, Codes, Floats, Limits, Goals],
             Call::SetWeights => &[Weights],
             Call::SetTool => &[Sizes, Codes, Floats, Limits, Tool0, Chain],
@@ -92,7 +95,7 @@ impl Call {
             | Call::GradientFiniteDiff
             | Call::GradientOneBlock => &[
                 Sizes, Codes, Floats, Limits, Goals, History, Weights, Tool0, Tool1, Tool2, Tool3,
-                Joints,
+                Joints, Strict,
             ],
             _ => &[Sizes, Codes, Floats, Limits, Joints],
         }
@@ -161,11 +164,25 @@ impl Lent {
         floats
     }
 
+    /// A number that stands as a list of one u16, if it is there.
+    fn number(&self, list: List) -> Option<u16> {
+        let mut numbers = Vec::new();
+        u16s(self.get(list), &mut numbers);
+        numbers.first().copied()
+    }
+
     /// The chain whose tool is set; one that no sheet has where none is lent.
     pub fn chain(&self) -> u32 {
-        let mut numbers = Vec::new();
-        u16s(self.get(Chain), &mut numbers);
-        numbers.first().copied().unwrap_or(u16::MAX).into()
+        self.number(Chain).unwrap_or(u16::MAX).into()
+    }
+
+    /// The list of objectives that the call works with.
+    pub fn pick(&self) -> Pick {
+        Pick::of(self.number(Strict).unwrap_or(0).into())
+    }
+
+    pub fn set_pick(&mut self, number: u16) {
+        self.bytes[Strict as usize] = u16_bytes(&[number]);
     }
 
     /// The tools that are lent.
@@ -223,7 +240,8 @@ fn answer(call: Call, lent: &Lent, rooms: &[usize]) -> (u32, Vec<Vec<u8>>) {
         return (number, Vec::new());
     }
     if call == Call::Sizing {
-        return (number, vec![u16_bytes(&plan(&sizes, &codes, &floats))]);
+        let plan = plan(lent.pick(), &sizes, &codes, &floats);
+        return (number, vec![u16_bytes(&plan)]);
     }
     let robot = sheet::robot(&sizes, &codes, &floats, &limits);
     let given = Given {
@@ -232,6 +250,7 @@ fn answer(call: Call, lent: &Lent, rooms: &[usize]) -> (u32, Vec<Vec<u8>>) {
         weights: &weights,
         tools: tools(&tool_lists),
         joints: &joints,
+        pick: lent.pick(),
     };
     (number, written(call, robot, &given))
 }
@@ -278,6 +297,7 @@ struct Given<'a> {
     weights: &'a [f64],
     tools: Tools,
     joints: &'a [f64],
+    pick: Pick,
 }
 
 /// What the published functions answer, laid out as bytes.
@@ -312,8 +332,8 @@ fn written(call: Call, robot: Robot, given: &Given) -> Vec<Vec<u8>> {
 fn aimed(call: Call, robot: Robot, given: &Given) -> Vec<Vec<u8>> {
     let joints = given.joints;
     let walks = record(&robot, joints);
-    let master = weights::master(&robot.chain_lengths, given.weights);
-    let master = tools::with_tools(master, &given.tools);
+    let master = weights::master(given.pick, &robot.chain_lengths, given.weights);
+    let master = tools::with_tools(given.pick, master, &given.tools);
     let vars = sheet::lent(robot, given.goals, given.history);
     if call == Call::Objective {
         return vec![answer_bytes(&[master.call(joints, &vars)])];

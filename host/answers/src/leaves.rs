@@ -13,19 +13,19 @@ use standins::{atan2, b, cos, cut, exp, powi, sin, sqrt};
 /// Draws of each leaf besides its edges.
 const DRAWS: usize = 6;
 
-fn vector(v: &[f64]) -> Vector3<f64> {
+pub fn vector(v: &[f64]) -> Vector3<f64> {
     Vector3::new(v[0], v[1], v[2])
 }
 
-fn unit(q: &[f64]) -> UnitQuaternion<f64> {
+pub fn unit(q: &[f64]) -> UnitQuaternion<f64> {
     UnitQuaternion::new_unchecked(Quaternion::new(q[0], q[1], q[2], q[3]))
 }
 
-fn three(v: Vector3<f64>) -> Vec<f64> {
+pub fn three(v: Vector3<f64>) -> Vec<f64> {
     vec![v.x, v.y, v.z]
 }
 
-fn four(q: UnitQuaternion<f64>) -> Vec<f64> {
+pub fn four(q: UnitQuaternion<f64>) -> Vec<f64> {
     vec![q.w, q.i, q.j, q.k]
 }
 
@@ -259,17 +259,21 @@ fn arguments(call: u16, draw: &mut Draw) -> Vec<Vec<f64>> {
     }
 }
 
+/// The record of a leaf that is asked these floats.
+pub fn asked(call: u16, x: &[f64], answer: &[f64]) -> Record {
+    Record {
+        call,
+        number: 0,
+        lists: vec![float_bytes(x), answer_bytes(answer)],
+        read: 1,
+    }
+}
+
 pub fn all(draw: &mut Draw) -> Vec<Record> {
     let mut records = Vec::new();
     for call in 11..=40 {
-        for x in arguments(call, draw) {
-            records.push(Record {
-                call,
-                number: 0,
-                lists: vec![float_bytes(&x), answer_bytes(&answer(call, &x))],
-                read: 1,
-            });
-        }
+        let own = arguments(call, draw).into_iter();
+        records.extend(own.map(|x| asked(call, &x, &answer(call, &x))));
     }
     records
 }

@@ -11,6 +11,8 @@ mod leaves;
 mod record;
 mod sequences;
 mod sizing;
+mod strict;
+mod strict_sequences;
 mod tool_sequences;
 mod tools;
 mod weight_sequences;
@@ -55,12 +57,14 @@ fn records(kind: Kind) -> Vec<Record> {
             records.extend(sizing::all(&mut draw));
             records.extend(weights::all(&mut draw));
             records.extend(tools::all(&mut draw));
+            records.extend(strict::all(&mut draw));
             records
         }
         Kind::Sequences => {
             let mut records = sequences::all(&mut draw);
             records.extend(weight_sequences::all(&mut draw));
             records.extend(tool_sequences::all(&mut draw));
+            records.extend(strict_sequences::all(&mut draw));
             records
         }
     }
@@ -145,16 +149,34 @@ mod tests {
         (Kind::Calls, 1286, 379_584, 0xcaa5_624b_5967_e0cf),
         (Kind::Sequences, 1436, 391_684, 0x52e5_9b0b_7600_12f1),
     ];
+    const BEFORE_STRICT: Before = [
+        (Kind::Calls, 1452, 465_810, 0xaa8b_e5f2_c787_f1e8),
+        (Kind::Sequences, 1592, 431_172, 0xb392_6ca0_3525_5e86),
+    ];
 
-    fn without_tools(record: &mut Record) {
+    fn without_pick(kind: Kind, record: &mut Record) {
+        let place = match kind {
+            Kind::Calls => strict::place(record),
+            Kind::Sequences => sequences::pick_place(record),
+        };
+        if let Some(at) = place {
+            assert!(record.lists.remove(at).is_empty());
+        }
+    }
+
+    fn without_tools(kind: Kind, record: &mut Record) {
+        // A call on the state is lent neither weights nor tools.
+        if kind == Kind::Sequences {
+            return;
+        }
         if let Some(at) = tools::place(record) {
             let lists = record.lists.drain(at..at + TOOLS);
             assert!(lists.into_iter().all(|list| list.is_empty()));
         }
     }
 
-    fn without_weights(record: &mut Record) {
-        if weights::is_weighted(record) {
+    fn without_weights(kind: Kind, record: &mut Record) {
+        if kind == Kind::Calls && weights::is_weighted(record) {
             assert!(record.lists.remove(arms::List::Weights as usize).is_empty());
         }
     }
@@ -163,20 +185,19 @@ mod tests {
     /// file, byte for byte.
     #[test]
     fn older_records_keep_their_bytes() {
-        type Without = &'static [fn(&mut Record)];
-        let changes: [(Before, Without); 2] = [
-            (BEFORE_TOOLS, &[without_tools]),
-            (BEFORE_WEIGHTS, &[without_tools, without_weights]),
+        type Without = fn(Kind, &mut Record);
+        // The latest first.
+        let changes: [(Before, Without); 3] = [
+            (BEFORE_STRICT, without_pick),
+            (BEFORE_TOOLS, without_tools),
+            (BEFORE_WEIGHTS, without_weights),
         ];
-        for (before, without) in changes {
-            for (kind, count, length, sum) in before {
+        for last in 1..=changes.len() {
+            for (kind, count, length, sum) in changes[last - 1].0 {
                 let mut older = records(kind);
                 older.truncate(count);
-                // A call on the state is lent neither weights nor tools.
-                if kind == Kind::Calls {
-                    without
-                        .iter()
-                        .for_each(|lists| older.iter_mut().for_each(lists));
+                for (_, without) in &changes[..last] {
+                    older.iter_mut().for_each(|record| without(kind, record));
                 }
                 let bytes = record::stored(&older).expect("a list");
                 assert_eq!((bytes.len(), draw::fnv(&bytes)), (length, sum));

@@ -11,6 +11,7 @@ use reference::groove::vars::RelaxedIKVars;
 use reference::record::record;
 use reference::refusals::{self, f64s, u16s, RecordRoom, Room, ACCEPTED};
 use reference::sheet;
+use reference::strict::Pick;
 use reference::tools::{self, tools, TOOLS};
 use reference::weights;
 
@@ -71,6 +72,19 @@ impl Step {
             Frames | Pose => &[0, 7, 9, 20],
             Objective => &[0, 7, 20, 21, 22],
             Gradient | GradientFiniteDiff | GradientOneBlock => &[0, 7, 9, 20, 21, 22],
+        }
+    }
+
+    /// The lists that it is lent, outputs apart.
+    fn read(self) -> &'static [List] {
+        match self {
+            Empty | Kept => &[],
+            Load => &[List::Sizes, List::Codes, List::Floats, List::Limits],
+            SetGoals => &[List::Goals],
+            SetWeights => &[List::Weights],
+            SetTool => &[List::Tool0, List::Chain],
+            _ if self.aims() => &[List::Joints, List::Strict],
+            _ => &[List::Joints],
         }
     }
 
@@ -210,13 +224,13 @@ impl State {
     }
 
     /// What an accepted call writes.
-    fn written(&self, step: Step, joints: &[f64]) -> Vec<Output> {
+    fn written(&self, step: Step, pick: Pick, joints: &[f64]) -> Vec<Output> {
         let Some((_, vars)) = &self.arms else {
             return vec![];
         };
         let (robot, tools) = (&vars.robot, tools(&self.tools));
-        let weighted = || weights::master(&robot.chain_lengths, &self.weights);
-        let master = || tools::with_tools(weighted(), &tools);
+        let weighted = || weights::master(pick, &robot.chain_lengths, &self.weights);
+        let master = || tools::with_tools(pick, weighted(), &tools);
         match step {
             Frames => {
                 let (positions, rotations) = sheet::frames(robot, joints);
@@ -342,7 +356,7 @@ fn outputs(state: &State, asked: &Asked, number: u32) -> Vec<Vec<u8>> {
     let (step, joints) = (asked.step, asked.lent.floats(List::Joints));
     let shape = state.arms.as_ref().map_or(asked.lent, |(own, _)| own);
     let all = match number {
-        ACCEPTED => state.written(step, &joints),
+        ACCEPTED => state.written(step, asked.lent.pick(), &joints),
         _ => unwritten(step, shape, &joints),
     };
     let last = all.len().saturating_sub(1);
@@ -361,17 +375,17 @@ fn outputs(state: &State, asked: &Asked, number: u32) -> Vec<Vec<u8>> {
     lists
 }
 
+/// Where the pick is in a record, if its step takes one.
+#[cfg(test)]
+pub fn pick_place(record: &Record) -> Option<usize> {
+    let step = STEPS.into_iter().find(|step| *step as u16 == record.call)?;
+    step.read().iter().position(|list| *list == List::Strict)
+}
+
 /// Makes a step: its record, and the state after it.
 pub fn play(state: &mut State, asked: &Asked) -> Record {
     let (step, lent) = (asked.step, asked.lent);
-    let read: &[List] = match step {
-        Empty | Kept => &[],
-        Load => &[List::Sizes, List::Codes, List::Floats, List::Limits],
-        SetGoals => &[List::Goals],
-        SetWeights => &[List::Weights],
-        SetTool => &[List::Tool0, List::Chain],
-        _ => &[List::Joints],
-    };
+    let read = step.read();
     let mut lists: Vec<Vec<u8>> = read.iter().map(|&list| lent.get(list).to_vec()).collect();
     let number = match step {
         Empty => {

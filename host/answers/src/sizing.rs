@@ -241,7 +241,7 @@ mod tests {
             let lent = lent(&shape, &mut draw);
             let (record, counts) = (of(&lent), &lent.counts);
             assert_eq!(record.number, 0, "{shape:?}");
-            let plan: Vec<usize> = record.lists[3]
+            let plan: Vec<usize> = record.lists[record.read]
                 .chunks_exact(2)
                 .map(|two| usize::from(u16::from_le_bytes([two[0], two[1]])))
                 .collect();

@@ -29,7 +29,7 @@ const SHARES: [Share; 6] = [
 ];
 
 /// Two joints on each of four chains.
-const FOUR: Shape = &[&[13, 12], &[11, 22], &[31, 12], &[13, 26]];
+pub const FOUR: Shape = &[&[13, 12], &[11, 22], &[31, 12], &[13, 26]];
 /// Shapes of several chains, and the chains that have a tool.
 const MOUNTED: [(Shape, &[usize]); 3] = [(SHAPES[2], &[0, 1]), (SHAPES[2], &[1]), (FOUR, &[0, 3])];
 
@@ -168,7 +168,7 @@ fn setting(draw: &mut Draw, records: &mut Vec<Record>) {
 }
 
 /// A sheet with these tools, the goals near their tips.
-fn mounted(shape: Shape, mounts: &[(usize, Tool)], draw: &mut Draw) -> Lent {
+pub fn mounted(shape: Shape, mounts: &[(usize, Tool)], draw: &mut Draw) -> Lent {
     let mut lent = lent(shape, draw);
     let mut lists: [Vec<f64>; TOOLS] = Default::default();
     for (chain, tool) in mounts {
@@ -217,7 +217,7 @@ fn spoilt(fault: &Fault, draw: &mut Draw) -> Lent {
 }
 
 /// A fault of this number besides.
-fn spoil(number: u32, lent: &mut Lent) {
+pub fn spoil(number: u32, lent: &mut Lent) {
     let other = FAULTS.iter().find(|fault| fault.0 == number);
     other.expect("a fault of each number").2(lent);
 }

@@ -4,18 +4,20 @@
 //! so the ratio holds all of that too. Calls that do little else than check
 //! have the plain reading of the refusals on the other side.
 
-use crate::builds::all_take_tools;
-use crate::{tooled, Draw, Rows, WITH_TOOLS};
+use crate::{Draw, Rows, WITH_TOOLS};
 use reference::groove::vars::RelaxedIKVars;
 use reference::refusals::{self, f64s, u16s};
 use reference::sheet;
 use reference::sizing::{plan, PLAN};
 use reference::spacetime::robot::Robot;
+use reference::strict::Pick;
 use reference::tools::{self, TOOLS, TOOL_FLOATS};
 use relaxed_ik::bytes::{self, of_floats, put_floats, put_u16s, Sheet, Tools};
 use std::cell::RefCell;
 
 pub const NO_TOOLS: Tools = [&[]; TOOLS];
+/// The number that picks the tolerance list of objectives.
+pub const TOLERANCE: u32 = 0;
 /// A sonde as long as a link, turned on its flange.
 const TOOL: [f64; TOOL_FLOATS] = [0.02, -0.01, 0.09, 0.8, 0.0, 0.0, 0.6];
 
@@ -175,7 +177,7 @@ impl Decoded {
         };
         let answer = refusals::sizing(&sheet, refusals::Room::of(PLAN));
         assert_eq!(answer, refusals::ACCEPTED);
-        plan(&self.sizes, &self.codes, &self.floats)
+        plan(Pick::Tolerance, &self.sizes, &self.codes, &self.floats)
     }
 }
 
@@ -253,7 +255,7 @@ fn sizing(rows: &mut Rows, label: &str, sheets: &[(Chains, Block)]) {
         sheets,
         |(chains, _)| {
             let (output, sheet) = (&mut *output.borrow_mut(), chains.sheet());
-            let answer = bytes::sizing(sheet.sizes, sheet.codes, sheet.floats, output);
+            let answer = bytes::sizing(sheet.sizes, sheet.codes, sheet.floats, output, TOLERANCE);
             assert_eq!(answer, refusals::ACCEPTED);
             let [.., low, high] = *output;
             f64::from(u16::from_le_bytes([low, high]))
@@ -298,16 +300,14 @@ fn ends(rows: &mut Rows, label: &str, chains: &Chains, blocks: &[Block]) {
         |block| {
             let ends = &mut outputs.borrow_mut().ends;
             let (sheet, joints) = (chains.sheet(), &block.joints_bytes);
-            last(tooled::pose(sheet, NO_TOOLS, joints, ends), ends)
+            last(bytes::pose(sheet, NO_TOOLS, joints, ends), ends)
         },
         |block| {
             let ends = chains.robot.get_ee_pos_and_quat_immutable(&block.joints);
             ends[ends.len() - 1].1.k
         },
     );
-    if all_take_tools() {
-        tips(rows, label, chains, blocks, &outputs);
-    }
+    tips(rows, label, chains, blocks, &outputs);
     rows.row(
         &format!("manipulability, {label}"),
         blocks,
@@ -335,7 +335,7 @@ fn tips(
         |block| {
             let ends = &mut outputs.borrow_mut().ends;
             let (sheet, joints) = (chains.sheet(), &block.joints_bytes);
-            last(tooled::pose(sheet, lent, joints, ends), ends)
+            last(bytes::pose(sheet, lent, joints, ends), ends)
         },
         |block| {
             let ends = tools::ends(&chains.robot, &own, &block.joints);
@@ -359,7 +359,7 @@ fn reset(rows: &mut Rows, label: &str, chains: &Chains, blocks: &[Block]) {
         |block| {
             let Outputs { history, ends, .. } = &mut *outputs.borrow_mut();
             let (sheet, joints) = (chains.sheet(), &block.joints_bytes);
-            let answer = tooled::reset(sheet, NO_TOOLS, joints, history, ends);
+            let answer = bytes::reset(sheet, NO_TOOLS, joints, history, ends);
             last(answer, ends)
         },
         |block| {

@@ -22,33 +22,25 @@ pub enum Build {
 #[cfg(feature = "two_builds")]
 mod linked {
     use super::Build;
-    use std::sync::atomic::{AtomicBool, Ordering::Relaxed};
 
     unsafe extern "C" {
         safe fn speed_ratio_take(build: u32);
-        safe fn speed_ratio_tools(build: u32) -> u32;
+        safe fn speed_ratio_strict(build: u32) -> u32;
     }
-
-    /// Whether the build that was taken last has calls that are lent tools.
-    static TOOLS: AtomicBool = AtomicBool::new(false);
 
     pub fn take(build: Build) {
         speed_ratio_take(build as u32);
-        TOOLS.store(has_tools(build), Relaxed);
     }
 
-    pub fn takes_tools() -> bool {
-        TOOLS.load(Relaxed)
-    }
-
-    /// By the function that sets a tool: it came with the lists.
-    pub fn has_tools(build: Build) -> bool {
-        speed_ratio_tools(build as u32) != 0
+    /// Whether the build's calls have the strict list. One from before is handed the
+    /// pick too, behind the lists that it knows, and does not look at it.
+    pub fn has_strict(build: Build) -> bool {
+        speed_ratio_strict(build as u32) != 0
     }
 }
 
 #[cfg(feature = "two_builds")]
-pub use linked::{take, takes_tools};
+pub use linked::take;
 
 /// Sends the calls that follow to one build.
 #[cfg(not(feature = "two_builds"))]
@@ -56,12 +48,13 @@ pub fn take(build: Build) {
     unreachable!("{build:?}, where one build is linked");
 }
 
-/// Whether every build that is linked can be lent tools.
-pub fn all_take_tools() -> bool {
+/// Whether every build that is linked has the strict list.
+#[cfg(feature = "objective")]
+pub fn all_have_strict() -> bool {
     #[cfg(feature = "two_builds")]
     return [Build::Before, Build::After]
         .into_iter()
-        .all(linked::has_tools);
+        .all(linked::has_strict);
     #[cfg(not(feature = "two_builds"))]
     true
 }

@@ -3,11 +3,12 @@
 use crate::{digits, Draw, Rows};
 use nalgebra::{DMatrix, Point3, Quaternion, UnitQuaternion, Vector3};
 use parry3d_f64::{query, shape::Segment};
+use reference::utils_rust::transformations::{angle_between_quaternion, quaternion_disp};
 use relaxed_ik::bytes::put_floats;
 use relaxed_ik::leaves;
 use std::hint::black_box;
 
-fn unit(q: &[f64; 4]) -> UnitQuaternion<f64> {
+pub fn unit(q: &[f64; 4]) -> UnitQuaternion<f64> {
     UnitQuaternion::new_unchecked(Quaternion::new(q[0], q[1], q[2], q[3]))
 }
 
@@ -43,6 +44,30 @@ fn standins(rows: &mut Rows, draw: &mut Draw) {
         &sides,
         |[n, w]| leaves::atan2(*n, *w),
         |[n, w]| standins::atan2(*n, *w),
+    );
+}
+
+/// The functions that the strict goals came with, parts as above.
+pub fn rotations(rows: &mut Rows, draw: &mut Draw) {
+    let cosines = draw.inputs(|d| d.between(-1.0, 1.0));
+    rows.row(
+        "acos",
+        &cosines,
+        |w| leaves::acos(*w),
+        |w| standins::acos(*w),
+    );
+    let pairs = draw.inputs(|d| (d.quaternion(), d.quaternion()));
+    rows.row(
+        "quaternion_disp, one part a call",
+        &pairs,
+        |(a, b)| leaves::quaternion_disp_part(*a, *b, 0),
+        |(a, b)| black_box(quaternion_disp(unit(a), unit(b))).x,
+    );
+    rows.row(
+        "angle_between_quaternion",
+        &pairs,
+        |(a, b)| leaves::angle_between_quaternion(*a, *b),
+        |(a, b)| angle_between_quaternion(unit(a), unit(b)),
     );
 }
 

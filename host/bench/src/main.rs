@@ -14,7 +14,6 @@ mod objective;
 mod ratios;
 mod report;
 mod timing;
-mod tooled;
 
 use builds::{Build, Round};
 use ratios::Ratios;
@@ -33,10 +32,13 @@ bench --round WORD    times the proved side of the rows on both, a line for each
 bench --ratios FILE   prints tables of such lines
 bench --both WORD N   runs the proved side N times on both, untimed";
 
-/// In the name of a row that lends weights or tools, between call and arm.
+/// In the name of a row that lends weights or tools, or picks the strict list,
+/// between call and arm.
 #[cfg(feature = "objective")]
 const WITH_WEIGHTS: &str = " with weights";
 const WITH_TOOLS: &str = " with tools";
+#[cfg(feature = "objective")]
+const WITH_STRICT_GOALS: &str = " with strict goals";
 
 /// Whether the call has a row on the arm besides.
 fn is_second(name: &str) -> bool {
@@ -176,7 +178,7 @@ fn repeated<I>(inputs: &[I], times: usize, call: &impl Fn(&I) -> f64) -> f64 {
 fn print(row: &Timed, proved: f64, reference: f64) {
     let [low, high] = row.quartiles;
     println!(
-        "{:<36} {:>10.1} {:>12.1} {:>8.2} {low:>8.2} {high:>6.2}   {proved:e} {reference:e}",
+        "{:<52} {:>10.1} {:>12.1} {:>8.2} {low:>8.2} {high:>6.2}   {proved:e} {reference:e}",
         row.name,
         row.proved,
         row.reference,
@@ -196,7 +198,7 @@ fn main() -> ExitCode {
     };
     if let Wish::Time(_) = wish {
         println!(
-            "{:<36} {:>10} {:>12} {:>8} {:>15}   sums of one pass",
+            "{:<52} {:>10} {:>12} {:>8} {:>15}   sums of one pass",
             "name", "proved ns", "reference ns", "ratio", "quartiles"
         );
     }
@@ -236,12 +238,17 @@ fn ratios(file: &str) -> ExitCode {
     }
 }
 
-/// Every row, once.
+/// Every row, once. What came with the strict list draws for itself, so that the
+/// others keep their inputs.
 fn all(rows: &mut Rows) {
     let mut draw = Draw(0x9e37_79b9_7f4a_7c15);
+    let mut rotations = Draw(0xbf58_476d_1ce4_e5b9);
     leaves::rows(rows, &mut draw);
+    leaves::rotations(rows, &mut rotations);
     #[cfg(feature = "objective")]
     objective::losses(rows, &mut draw);
+    #[cfg(feature = "objective")]
+    objective::strict_losses(rows, &mut rotations);
     calls(rows, &mut draw);
     #[cfg(feature = "objective")]
     objective::setting(rows, &mut draw);

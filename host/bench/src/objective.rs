@@ -2,17 +2,19 @@
 //! proved side is lent everything in bytes and checks it at each call, while
 //! the reference's structures are made beforehand.
 
-use crate::arms::{first, Chains, NO_TOOLS};
-use crate::builds::all_take_tools;
-use crate::tooled::{self, TwoBlocks};
-use crate::{Draw, Rows, WITH_TOOLS, WITH_WEIGHTS};
+use crate::arms::{first, Chains, NO_TOOLS, TOLERANCE};
+use crate::builds::all_have_strict;
+use crate::leaves::unit;
+use crate::{Draw, Rows, WITH_STRICT_GOALS, WITH_TOOLS, WITH_WEIGHTS};
+use nalgebra::Vector3;
 use reference::groove::objective::{groove_loss, swamp_groove_loss, swamp_loss};
 use reference::groove::objective_master::ObjectiveMaster;
 use reference::groove::vars::RelaxedIKVars;
+use reference::strict::Pick;
 use reference::tools::TOOLS;
 use reference::weights::{self, WEIGHTS};
 use reference::{losses as published, record, refusals, sheet, tools};
-use relaxed_ik::bytes::{of_floats, set_weights, Given, Record, Tools};
+use relaxed_ik::bytes::{self, of_floats, set_weights, Given, Record, Tools};
 use relaxed_ik::leaves;
 use std::cell::RefCell;
 
@@ -22,6 +24,8 @@ const STATES: usize = 8;
 const TOLERANCES: [f64; 6] = [0.0, 0.1, 0.05, 0.0, 0.5, 3.2];
 /// A crew's own, to which azimuth means more than depth.
 const OWN: [f64; WEIGHTS] = [20.0, 60.0, 0.1, 0.7, 0.5, 0.3, 1.0, 0.01];
+/// Picks the strict list of objectives.
+const STRICT: u32 = 1;
 
 pub fn losses(rows: &mut Rows, draw: &mut Draw) {
     let distances = draw.inputs(|d| d.between(-1.0, 1.0));
@@ -73,6 +77,26 @@ fn bounded_losses(rows: &mut Rows, draw: &mut Draw) {
     );
 }
 
+/// Without tolerance: an end near its goal. The reference's side makes the state that
+/// the published objective looks at, and its time holds that.
+pub fn strict_losses(rows: &mut Rows, draw: &mut Draw) {
+    let points = draw.inputs(|d| (d.floats::<3>(-1.0, 1.0), d.floats::<3>(-1.0, 1.0)));
+    let vector = |[x, y, z]: [f64; 3]| Vector3::new(x, y, z);
+    rows.row(
+        "loss_pos_goals",
+        &points,
+        |(goal, end)| leaves::loss_pos_goals(*goal, *end),
+        |(goal, end)| published::position_goal(vector(*goal), vector(*end)),
+    );
+    let turns = draw.inputs(|d| (d.quaternion(), d.quaternion()));
+    rows.row(
+        "loss_quat_goals",
+        &turns,
+        |(goal, end)| leaves::loss_quat_goals(*goal, *end),
+        |(goal, end)| published::rotation_goal(unit(goal), unit(end)),
+    );
+}
+
 /// Joints near their history and goals, in numbers and in bytes.
 struct State {
     vars: RelaxedIKVars,
@@ -120,17 +144,6 @@ impl State {
             aim,
         }
     }
-
-    /// Without weights and tools.
-    fn given<'a>(&'a self, chains: &'a Chains) -> Given<'a> {
-        Given {
-            sheet: chains.sheet(),
-            goals: &self.goals_bytes,
-            history: &self.history_bytes,
-            weights: &[],
-            tools: NO_TOOLS,
-        }
-    }
 }
 
 /// The outputs of every call, as long as it needs them.
@@ -168,93 +181,149 @@ fn shown((value, slopes): (f64, Vec<f64>)) -> f64 {
 
 pub fn rows(rows: &mut Rows, draw: &mut Draw, label: &str, chains: &Chains) {
     let states: Vec<State> = (0..STATES).map(|_| State::new(chains, draw)).collect();
-    let master = ObjectiveMaster::relaxed_ik(&chains.robot.chain_lengths);
     let walked = record::record(&chains.robot, &states[0].joints).links.len();
-    let lists = RefCell::new(Lists::new(chains.robot.num_dofs, walked));
-    rows.row(
-        &format!("objective, {label}"),
-        &states,
-        |state| value(&mut lists.borrow_mut(), state.given(chains), state),
-        |state| master.call(&state.joints, &state.vars),
-    );
-    rows.row(
-        &format!("gradient, {label}"),
-        &states,
-        |state| two_blocks(tooled::gradient, &mut lists.borrow_mut(), state, chains),
-        |state| shown(master.gradient(&state.joints, &state.vars)),
-    );
-    let coarse = tooled::gradient_finite_diff;
-    rows.row(
-        &format!("gradient_finite_diff, {label}"),
-        &states,
-        |state| two_blocks(coarse, &mut lists.borrow_mut(), state, chains),
-        |state| shown(master.gradient_finite_diff(&state.joints, &state.vars)),
-    );
-    // The published gradient keeps no record; the ratio holds that too.
-    rows.row(
-        &format!("gradient_one_block, {label}"),
-        &states,
-        |state| one_block(&mut lists.borrow_mut(), state.given(chains), state),
-        |state| shown(master.gradient(&state.joints, &state.vars)),
-    );
-    // The published list of priors with the weights set.
-    let weighted = Second {
-        words: WITH_WEIGHTS,
-        master: weights::master(&chains.robot.chain_lengths, &OWN),
-        weights: &OWN,
-        tools: NO_TOOLS,
+    let on = On {
+        label,
+        chains,
+        states: &states,
+        lists: &RefCell::new(Lists::new(chains.robot.num_dofs, walked)),
     };
-    weighted.rows(rows, label, chains, &states, &lists);
-    if all_take_tools() {
-        let (own, lent) = chains.tools();
-        let at_tips = Second {
-            words: WITH_TOOLS,
-            master: tools::with_tools(master, &own),
-            weights: &[],
-            tools: lent,
+    let (lengths, tolerance) = (&chains.robot.chain_lengths, Pick::Tolerance);
+    Way::new("", tolerance.master(lengths)).four_rows(rows, &on);
+    let weighted = Way {
+        weights: &OWN,
+        ..Way::new(WITH_WEIGHTS, weights::master(tolerance, lengths, &OWN))
+    };
+    weighted.two_rows(rows, &on);
+    let (own, lent) = chains.tools();
+    let master = tools::with_tools(tolerance, tolerance.master(lengths), &own);
+    let at_tips = Way {
+        tools: lent,
+        ..Way::new(WITH_TOOLS, master)
+    };
+    let aimed: Vec<State> = states.iter().map(|s| s.aimed(chains, &own)).collect();
+    let on_tips = On {
+        states: &aimed,
+        ..on
+    };
+    at_tips.two_rows(rows, &on_tips);
+    if all_have_strict() {
+        let strict = Way {
+            strict: STRICT,
+            ..Way::new(WITH_STRICT_GOALS, Pick::Strict.master(lengths))
         };
-        let states: Vec<State> = states.iter().map(|s| s.aimed(chains, &own)).collect();
-        at_tips.rows(rows, label, chains, &states, &lists);
+        strict.four_rows(rows, &on);
     }
 }
 
-/// The same with weights or tools lent, beside a master that has them.
-struct Second<'a> {
+/// Arms with states on them, and room for the answers.
+struct On<'a> {
+    label: &'a str,
+    chains: &'a Chains,
+    states: &'a [State],
+    lists: &'a RefCell<Lists>,
+}
+
+/// What a call is lent besides the state, and its pick, beside a master that has both.
+struct Way<'a> {
+    /// In the names of its rows.
     words: &'a str,
     master: ObjectiveMaster,
     weights: &'a [f64],
     tools: Tools<'a>,
+    strict: u32,
 }
 
-impl Second<'_> {
-    fn given<'a>(&'a self, state: &'a State, chains: &'a Chains) -> Given<'a> {
-        Given {
-            weights: of_floats(self.weights),
-            tools: self.tools,
-            ..state.given(chains)
+impl<'a> Way<'a> {
+    /// Without weights and tools, by the tolerance list.
+    fn new(words: &'a str, master: ObjectiveMaster) -> Self {
+        Self {
+            words,
+            master,
+            weights: &[],
+            tools: NO_TOOLS,
+            strict: TOLERANCE,
         }
     }
 
-    fn rows(
+    fn given<'b>(&'b self, state: &'b State, chains: &'b Chains) -> Given<'b> {
+        Given {
+            sheet: chains.sheet(),
+            goals: &state.goals_bytes,
+            history: &state.history_bytes,
+            weights: of_floats(self.weights),
+            tools: self.tools,
+            strict: self.strict,
+        }
+    }
+
+    /// The objective and the slopes on one block.
+    fn two_rows(&self, rows: &mut Rows, on: &On) {
+        self.value_row(rows, on);
+        self.one_block_row(rows, on);
+    }
+
+    /// The slopes on two blocks too.
+    fn four_rows(&self, rows: &mut Rows, on: &On) {
+        self.value_row(rows, on);
+        let master = &self.master;
+        self.two_blocks_row(rows, on, "gradient", bytes::gradient, |state| {
+            master.gradient(&state.joints, &state.vars)
+        });
+        let coarse = bytes::gradient_finite_diff;
+        self.two_blocks_row(rows, on, "gradient_finite_diff", coarse, |state| {
+            master.gradient_finite_diff(&state.joints, &state.vars)
+        });
+        self.one_block_row(rows, on);
+    }
+
+    fn value_row(&self, rows: &mut Rows, on: &On) {
+        rows.row(
+            &format!("objective{}, {}", self.words, on.label),
+            on.states,
+            |state| {
+                value(
+                    &mut on.lists.borrow_mut(),
+                    self.given(state, on.chains),
+                    state,
+                )
+            },
+            |state| self.master.call(&state.joints, &state.vars),
+        );
+    }
+
+    fn two_blocks_row(
         &self,
         rows: &mut Rows,
-        label: &str,
-        chains: &Chains,
-        states: &[State],
-        lists: &RefCell<Lists>,
+        on: &On,
+        name: &str,
+        call: TwoBlocks,
+        reference: impl Fn(&State) -> (f64, Vec<f64>),
     ) {
-        let Self { words, master, .. } = self;
         rows.row(
-            &format!("objective{words}, {label}"),
-            states,
-            |state| value(&mut lists.borrow_mut(), self.given(state, chains), state),
-            |state| master.call(&state.joints, &state.vars),
+            &format!("{name}{}, {}", self.words, on.label),
+            on.states,
+            |state| {
+                let (lists, given) = (&mut on.lists.borrow_mut(), self.given(state, on.chains));
+                two_blocks(call, lists, given, state)
+            },
+            |state| shown(reference(state)),
         );
+    }
+
+    /// The published gradient keeps no record; the ratio holds that too.
+    fn one_block_row(&self, rows: &mut Rows, on: &On) {
         rows.row(
-            &format!("gradient_one_block{words}, {label}"),
-            states,
-            |state| one_block(&mut lists.borrow_mut(), self.given(state, chains), state),
-            |state| shown(master.gradient(&state.joints, &state.vars)),
+            &format!("gradient_one_block{}, {}", self.words, on.label),
+            on.states,
+            |state| {
+                one_block(
+                    &mut on.lists.borrow_mut(),
+                    self.given(state, on.chains),
+                    state,
+                )
+            },
+            |state| shown(self.master.gradient(&state.joints, &state.vars)),
         );
     }
 }
@@ -277,13 +346,16 @@ pub fn setting(rows: &mut Rows, draw: &mut Draw) {
 
 fn value(lists: &mut Lists, given: Given, state: &State) -> f64 {
     let value = &mut lists.value;
-    let answer = tooled::objective(given, &state.joints_bytes, value);
+    let answer = bytes::objective(given, &state.joints_bytes, value);
     assert_eq!(answer, refusals::ACCEPTED);
     first(value)
 }
 
-fn two_blocks(call: TwoBlocks, lists: &mut Lists, state: &State, chains: &Chains) -> f64 {
-    let (scratch, given) = (&mut lists.scratch, state.given(chains));
+/// A call on two blocks: joints, then scratch, value and slopes.
+type TwoBlocks = fn(Given, &[u8], &mut [u8], &mut [u8], &mut [u8]) -> u32;
+
+fn two_blocks(call: TwoBlocks, lists: &mut Lists, given: Given, state: &State) -> f64 {
+    let scratch = &mut lists.scratch;
     let (value, slopes) = (&mut lists.value, &mut lists.slopes);
     let answer = call(given, &state.joints_bytes, scratch, value, slopes);
     shown_bytes(answer, value, slopes)
@@ -296,6 +368,6 @@ fn one_block(lists: &mut Lists, given: Given, state: &State) -> f64 {
         poses: &mut lists.record_poses,
     };
     let (value, slopes) = (&mut lists.value, &mut lists.slopes);
-    let answer = tooled::gradient_one_block(given, &state.joints_bytes, value, slopes, record);
+    let answer = bytes::gradient_one_block(given, &state.joints_bytes, value, slopes, record);
     shown_bytes(answer, value, slopes)
 }

@@ -7,7 +7,7 @@ use crate::sheets::{damages, Damage, Fit, List, Lists, Shape, CODES};
 use crate::source::{Source, READ, WEIGHTS, WRITTEN};
 use crate::target::{Target, ARMS, SETTING, SET_TOOL, SIZING};
 use crate::trial::Trial;
-use crate::{tools, weights};
+use crate::{strict, tools, weights};
 
 pub fn targets() -> Vec<Target> {
     let arms = |name, about, kinds, run| Target::new(name, about, ARMS, kinds, run);
@@ -59,6 +59,9 @@ pub fn all(run: &mut Run, call: Call) {
         let tools = [List::Tool, List::Tool0];
         if tools.iter().any(|list| call.read().contains(list)) {
             tools::edges(run, &mut trial);
+        }
+        if call.read().contains(&List::Strict) {
+            strict::edges(run, &mut trial);
         }
     }
     let mut source = Source::new(call, run.kind);

@@ -68,12 +68,12 @@ impl Call {
     /// limits, and for setting weights, which has no sheet.
     pub fn read(self) -> &'static [List] {
         use List::{
-            Chain, Codes, Floats, Goals, History, Joints, Limits, Sizes, Tool, Tool0, Tool1, Tool2,
-            Tool3, Weights,
+            Chain, Codes, Floats, Goals, History, Joints, Limits, Sizes, Strict, Tool, Tool0,
+            Tool1, Tool2, Tool3, Weights,
         };
         match self {
             Call::Load => &[Sizes, Codes, Floats, Limits],
-            Call::Sizing => &[Sizes, Codes, Floats],
+            Call::Sizing => &[Sizes, Codes, Floats, Strict],
             Call::SetGoals => &[Sizes, Codes, Floats, Limits, Goals],
             Call::SetWeights => &[Weights],
             Call::SetTool => &[Sizes, Codes, Floats, Limits, Tool, Chain],
@@ -83,7 +83,7 @@ impl Call {
             Call::Update => &[Sizes, Codes, Floats, Limits, History, Joints],
             _ if self.aims() => &[
                 Sizes, Codes, Floats, Limits, Goals, History, Weights, Tool0, Tool1, Tool2, Tool3,
-                Joints,
+                Joints, Strict,
             ],
             _ => &[Sizes, Codes, Floats, Limits, Joints],
         }
@@ -98,6 +98,7 @@ impl Call {
     pub fn own(self) -> &'static [List] {
         match self {
             Call::SetWeights => self.read(),
+            Call::Sizing => &self.read()[3..],
             _ => self.read().get(4..).unwrap_or_default(),
         }
     }
@@ -149,7 +150,9 @@ impl Call {
     pub fn ask(self, read: &[&[u8]], write: &mut [&mut [u8]]) -> u32 {
         match (self, read) {
             (Call::SetWeights, [weights]) => bytes::set_weights(weights),
-            (Call::Sizing, [sizes, codes, floats]) => bytes::sizing(sizes, codes, floats, write[0]),
+            (Call::Sizing, [sizes, codes, floats, strict]) => {
+                bytes::sizing(sizes, codes, floats, write[0], number(strict))
+            }
             (_, [sizes, codes, floats, limits, own @ ..]) => {
                 let sheet = bytes::Sheet {
                     sizes,
@@ -184,13 +187,14 @@ impl Call {
                 bytes::update(sheet, history, joints, renewed)
             }
             #[cfg(feature = "objective")]
-            (_, [goals, history, weights, tools @ .., joints], write) => {
+            (_, [goals, history, weights, tools @ .., joints, strict], write) => {
                 let given = bytes::Given {
                     sheet,
                     goals,
                     history,
                     weights,
                     tools: by_chain(tools),
+                    strict: number(strict),
                 };
                 self.ask_given(given, joints, write)
             }

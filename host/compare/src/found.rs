@@ -132,6 +132,8 @@ pub fn sheet(text: &mut Text, names: &[List], lists: &[&[u8]]) {
             List::Sizes | List::Codes | List::Floats => chains.is_some(),
             List::Tool => tools.values().any(|(list, _)| *list == name),
             List::Chain => false,
+            // A line says which list is picked, and no other number than these.
+            List::Strict => number(bytes) <= 1,
             _ if TOOL_LISTS.contains(&name) => {
                 bytes.is_empty() || tools.values().any(|(list, _)| *list == name)
             }
@@ -145,6 +147,9 @@ pub fn sheet(text: &mut Text, names: &[List], lists: &[&[u8]]) {
     text.start();
     if let Some(chains) = chains {
         chains.write(text, &tools);
+    }
+    if both().any(|(name, bytes)| name == List::Strict && number(bytes) != 0) {
+        text.strict_goals();
     }
     for (name, bytes) in both().filter(|(_, bytes)| bytes.len() % 8 == 0) {
         // A sheet without the line is lent none; to set none is another thing.

@@ -80,14 +80,16 @@ pub fn four(q: UnitQuaternion<f64>) -> [f64; 4] {
 }
 
 /// The first A floats and the B after them.
-fn split<const N: usize, const A: usize, const B: usize>(all: [f64; N]) -> ([f64; A], [f64; B]) {
+pub fn split<const N: usize, const A: usize, const B: usize>(
+    all: [f64; N],
+) -> ([f64; A], [f64; B]) {
     (
         std::array::from_fn(|i| all[i]),
         std::array::from_fn(|i| all[A + i]),
     )
 }
 
-fn join<const N: usize>(first: &[f64], second: &[f64]) -> [f64; N] {
+pub fn join<const N: usize>(first: &[f64], second: &[f64]) -> [f64; N] {
     std::array::from_fn(|i| *first.get(i).unwrap_or_else(|| &second[i - first.len()]))
 }
 

@@ -8,6 +8,7 @@ use reference::record::record;
 use reference::refusals::{self, f64s, u16s, Given, List, RecordRoom, Room, Sheet};
 use reference::sheet;
 use reference::sizing;
+use reference::strict::Pick;
 use reference::tools::{self, Tools, TOOLS};
 use reference::weights::{self, Weighted};
 use relaxed_ik::bytes::{put_floats, put_u16s};
@@ -76,6 +77,7 @@ struct Lent<'a> {
     joints: List<'a, f64>,
     /// To be set, on the chain of this number.
     tool: (List<'a, f64>, u32),
+    pick: Pick,
 }
 
 impl Decoded {
@@ -108,6 +110,7 @@ impl Decoded {
             },
             joints: f64s(list(Name::Joints), &mut self.joints),
             tool: (f64s(list(Name::Tool), &mut self.tool), chain),
+            pick: Pick::of(number(list(Name::Strict))),
         }
     }
 }
@@ -160,7 +163,7 @@ impl Lent<'_> {
             floats,
             ..
         } = self.given.sheet;
-        sizing::plan(sizes.numbers, codes.numbers, floats.numbers).to_vec()
+        sizing::plan(self.pick, sizes.numbers, codes.numbers, floats.numbers).to_vec()
     }
 }
 
@@ -187,10 +190,10 @@ impl Kept {
     }
 }
 
-/// The published structures for a sheet; the master once it is asked for.
+/// The published structures for a sheet; the master of a pick once it is asked for.
 struct Made {
     vars: RelaxedIKVars,
-    master: Option<Weighted>,
+    masters: [Option<Weighted>; Pick::BOTH.len()],
 }
 
 impl Made {
@@ -199,7 +202,7 @@ impl Made {
         let (floats, limits) = (sheet.floats.numbers, sheet.limits.numbers);
         Self {
             vars: sheet::loaded(sheet::robot(sizes, codes, floats, limits)),
-            master: None,
+            masters: [None, None],
         }
     }
 
@@ -232,17 +235,19 @@ impl Made {
         floats.into_iter().map(Floats).collect()
     }
 
-    /// What the calls on goals and history write, by the master that has the weights
-    /// and tools which they are lent.
+    /// What the calls on goals and history write, by the master of their pick that has
+    /// the weights and tools which they are lent.
     fn aimed(&mut self, call: Call, lent: &Lent) -> Vec<Written> {
         let (vars, joints) = (&self.vars, lent.joints.numbers);
         let (weights, tools) = (lent.given.weights.numbers, lent.tools());
         let lengths = &vars.robot.chain_lengths;
         if tools.iter().any(Option::is_some) {
-            let master = tools::with_tools(weights::master(lengths, weights), &tools);
+            let master = weights::master(lent.pick, lengths, weights);
+            let master = tools::with_tools(lent.pick, master, &tools);
             return aimed(call, &master, vars, joints);
         }
-        let own = self.master.get_or_insert_with(|| Weighted::new(lengths));
+        let own = &mut self.masters[lent.pick as usize];
+        let own = own.get_or_insert_with(|| Weighted::new(lent.pick, lengths));
         own.set(weights);
         aimed(call, &own.master, vars, joints)
     }

@@ -16,6 +16,7 @@ pub mod numbers;
 pub mod options;
 mod progress;
 pub mod report;
+pub mod rotations;
 pub mod run;
 pub mod session;
 mod shares;
@@ -24,6 +25,7 @@ pub mod sheets;
 pub mod slopes;
 pub mod source;
 mod state;
+mod strict;
 mod tally;
 pub mod target;
 mod tools;
@@ -37,6 +39,7 @@ use target::Target;
 pub fn targets() -> Vec<Target> {
     let mut all = numbers::targets();
     all.extend(geometry::targets());
+    all.extend(rotations::targets());
     all.extend(matrices::targets());
     all.extend(arms::targets());
     #[cfg(feature = "objective")]

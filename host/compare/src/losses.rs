@@ -2,6 +2,8 @@
 
 use crate::draw::kind::{Kind, Kinds};
 use crate::draw::{grid, Draw, CORNERS, SIGNS};
+use crate::geometry::{join, split, unit, vector};
+use crate::rotations::{pair, pair_edges, ROTATIONS};
 use crate::run::Run;
 use crate::target::Target;
 use reference::groove::objective::{groove_loss, swamp_groove_loss, swamp_loss};
@@ -51,6 +53,18 @@ pub fn targets() -> Vec<Target> {
             |run| under_tolerance(run, leaves::loss_rotation, published::rotation),
         ),
         leaf("loss_limits", "a joint between its limits", BOUNDED, limits),
+        leaf(
+            "loss_pos_goals",
+            "an end's position at a strict goal",
+            BOUNDED,
+            position_goal,
+        ),
+        leaf(
+            "loss_quat_goals",
+            "an end's rotation at a strict goal",
+            ROTATIONS,
+            rotation_goal,
+        ),
     ]
 }
 
@@ -228,5 +242,45 @@ fn limits(run: &mut Run) {
         },
         |[x, l, u]| [leaves::loss_limits(x, l, u)],
         |[x, l, u]| [published::limits(x, &published::limited(l, u))],
+    );
+}
+
+/// At the border the end is at the goal, or moved by little.
+fn position_goal(run: &mut Run) {
+    let few = [0.0, -0.0, 1.0, f64::INFINITY, f64::NAN];
+    run.function(
+        grid::<6>(&few),
+        |draw, kind| {
+            let goal = draw.vector(kind);
+            let size = draw.pick(&[0.0, 1e-9, 1e-3, 0.1, 1.0]);
+            let end = match kind {
+                Kind::Border => goal.map(|v| v + draw.between(-size, size)),
+                _ => draw.vector(kind),
+            };
+            join(&goal, &end)
+        },
+        |all| {
+            let (goal, end) = split::<6, 3, 3>(all);
+            [leaves::loss_pos_goals(goal, end)]
+        },
+        |all| {
+            let (goal, end) = split::<6, 3, 3>(all);
+            [published::position_goal(vector(goal), vector(end))]
+        },
+    );
+}
+
+fn rotation_goal(run: &mut Run) {
+    run.function(
+        pair_edges(),
+        pair,
+        |all| {
+            let (goal, end) = split::<8, 4, 4>(all);
+            [leaves::loss_quat_goals(goal, end)]
+        },
+        |all| {
+            let (goal, end) = split::<8, 4, 4>(all);
+            [published::rotation_goal(unit(goal), unit(end))]
+        },
     );
 }

@@ -5,7 +5,7 @@ use crate::draw::{grid, Draw};
 use crate::run::Run;
 use crate::target::{Target, CONSTANT};
 use relaxed_ik::leaves;
-use standins::{atan2, b, cos, cut, exp, powi, sin};
+use standins::{acos, atan2, b, cos, cut, exp, powi, sin};
 
 /// About half of the draws are any floats.
 const ROOT: Kinds = &[
@@ -28,6 +28,12 @@ const SIDES: Kinds = &[
     (Kind::Small, 2),
     (Kind::Any, 2),
 ];
+const COSINES: Kinds = &[
+    (Kind::Range, 3),
+    (Kind::Border, 3),
+    (Kind::Small, 1),
+    (Kind::Any, 3),
+];
 
 pub fn targets() -> Vec<Target> {
     let leaf = Target::leaf;
@@ -49,6 +55,9 @@ pub fn targets() -> Vec<Target> {
             one(run, exponent, leaves::exp, exp)
         }),
         leaf("atan2", "angle of n and w", SIDES, angle),
+        leaf("acos", "angle of a cosine", COSINES, |run| {
+            one(run, cosine, leaves::acos, acos)
+        }),
         leaf("power20", "20th power by squaring", SCALED, |run| {
             one(run, scaled, leaves::power20, |a| powi(a, 20))
         }),
@@ -145,6 +154,21 @@ fn scaled(draw: &mut Draw, kind: Kind) -> f64 {
         (_, 0) => draw.between(-1.0001, 1.0001),
         (_, 1) => draw.between(-100.0, 100.0),
         _ => draw.between(-2.0, 2.0),
+    }
+}
+
+/// The border is where the angle's formula or its sign changes: 0, 1 and -1, and a
+/// hair from each.
+fn cosine(draw: &mut Draw, kind: Kind) -> f64 {
+    match (kind, draw.word() % 2) {
+        (Kind::Any, _) => draw.any(),
+        (Kind::Border, 0) => {
+            let end = draw.pick(&[0.0, -0.0, 1.0, -1.0]);
+            beside(draw, end)
+        }
+        (Kind::Border, _) => draw.pick(&[0.0, 1.0, -1.0]) + draw.small(60),
+        (Kind::Small, _) => draw.small(1000),
+        _ => draw.between(-1.0, 1.0),
     }
 }
 

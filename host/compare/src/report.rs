@@ -14,7 +14,7 @@ use std::{fs, thread};
 
 /// The names with what they get and have, then the kinds.
 pub fn list(targets: &[Target]) -> String {
-    let mut text = "name                  --cases N  --total N  what it is\n".to_string();
+    let mut text = "name                      --cases N  --total N  what it is\n".to_string();
     for target in targets {
         let cases = match (target.pace.share, target.pace.divisor) {
             (0, _) => "0".to_string(),
@@ -23,7 +23,7 @@ pub fn list(targets: &[Target]) -> String {
         };
         let share = target.pace.share as f64 / 10.0;
         let (name, about) = (target.name, target.about);
-        let _ = writeln!(text, "{name:<20} {cases:>10} {share:>8.1} %  {about}");
+        let _ = writeln!(text, "{name:<24} {cases:>10} {share:>8.1} %  {about}");
         let _ = writeln!(text, "  {}", target.kind_names());
     }
     text.push_str("\nkind\n");
@@ -47,7 +47,7 @@ pub fn line(name: &str, tally: &Tally) -> String {
     let (cases, differences) = (tally.cases, tally.differences);
     let seconds = tally.time.as_secs_f64();
     let mut text =
-        format!("{name:<20} {cases:>10} cases {differences:>8} differences {seconds:>8.2} s\n");
+        format!("{name:<24} {cases:>10} cases {differences:>8} differences {seconds:>8.2} s\n");
     if !tally.answers.is_empty() {
         let counts = tally.answers.iter();
         let counts: Vec<String> = counts.map(|(n, count)| format!("{n}: {count}")).collect();

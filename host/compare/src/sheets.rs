@@ -1,12 +1,13 @@
 //! Lists for the byte calls: sheets that document 01 takes, with joints,
-//! histories, goals, weights and tools, and the ways to spoil them.
+//! histories, goals, weights, tools and a pick, and the ways to spoil them.
 
 use crate::draw::kind::Kind;
 use crate::draw::Draw;
-use crate::{tools, weights};
+use crate::{strict, tools, weights};
 use reference::refusals::{self, f64s, u16s};
 use reference::sheet;
-use reference::tools::{ends, Tool as Mounted, TOOLS, TOOL_FLOATS};
+use reference::spacetime::robot::Robot;
+use reference::tools::{ends, Tool as Mounted, Tools, TOOLS, TOOL_FLOATS};
 use relaxed_ik::bytes::{put_floats, put_u16s};
 
 /// The lists that are read, in the order of the byte calls.
@@ -29,15 +30,17 @@ pub enum List {
     /// The number of the chain on which it is: no list of the call, but four bytes
     /// that stand for it here.
     Chain,
+    /// The number that picks a list of objectives, in the same way.
+    Strict,
 }
 
 use List::{
-    Chain, Codes, Floats, Goals, History, Joints, Limits, Sizes, Tool, Tool0, Tool1, Tool2, Tool3,
-    Weights,
+    Chain, Codes, Floats, Goals, History, Joints, Limits, Sizes, Strict, Tool, Tool0, Tool1, Tool2,
+    Tool3, Weights,
 };
 
 /// How many there are.
-const LISTS: usize = Chain as usize + 1;
+const LISTS: usize = Strict as usize + 1;
 /// Those of the tools that are lent, by chain.
 pub const TOOL_LISTS: [List; TOOLS] = [Tool0, Tool1, Tool2, Tool3];
 
@@ -158,9 +161,9 @@ impl Lists {
         lists
     }
 
-    /// Draws these anew: goals, history, weights, tools, joints. A call that works
-    /// with weights or tools is lent none as often as some; those that set them have
-    /// some.
+    /// Draws these anew: goals, history, weights, tools, joints, the pick. A call that
+    /// works with weights or tools is lent none as often as some; those that set them
+    /// have some.
     pub fn renew(&mut self, lists: &[List], draw: &mut Draw) {
         let lent = lists.contains(&Joints);
         let mounted = lists.contains(&Tool0) && draw.word() % 2 == 0;
@@ -176,6 +179,7 @@ impl Lists {
                     let chain = draw.below(self.chains.max(1)) as u32;
                     self.set(list, &chain.to_le_bytes());
                 }
+                Strict => self.set(list, &strict::drawn(draw).to_le_bytes()),
                 Tool0 | Tool1 | Tool2 | Tool3 => {
                     let loaded = (list as usize) < Tool0 as usize + self.chains;
                     let some = mounted && loaded && draw.word() % 4 != 0;
@@ -217,13 +221,10 @@ impl Lists {
         }
     }
 
-    /// Brings joints, history and goals near each other. Drawn apart, most
-    /// losses lie far out, where their exponential is 0. A sheet that is
-    /// refused stays as it is.
-    pub fn aim(&mut self, draw: &mut Draw) {
+    /// The published arms with their tools, if the sheet is taken.
+    fn arms(&self) -> Option<(Robot, Tools)> {
         let (mut sizes, mut codes) = (Vec::new(), Vec::new());
         let (mut floats, mut limits) = (Vec::new(), Vec::new());
-        let (mut joints, mut goals) = (Vec::new(), Vec::new());
         let sheet = refusals::Sheet {
             sizes: u16s(self.get(Sizes), &mut sizes),
             codes: u16s(self.get(Codes), &mut codes),
@@ -231,14 +232,31 @@ impl Lists {
             limits: f64s(self.get(Limits), &mut limits),
         };
         if refusals::load(&sheet) != refusals::ACCEPTED {
-            return;
+            return None;
         }
-        f64s(self.get(Joints), &mut joints);
-        f64s(self.get(Goals), &mut goals);
+        let tools = TOOL_LISTS.map(|list| Mounted::of(&self.floats(list)));
+        Some((sheet::robot(&sizes, &codes, &floats, &limits), tools))
+    }
+
+    fn floats(&self, list: List) -> Vec<f64> {
+        let mut floats = Vec::new();
+        f64s(self.get(list), &mut floats);
+        floats
+    }
+
+    /// Brings joints, history and goals near each other. Drawn apart, most
+    /// losses lie far out, where their exponential is 0. A sheet that is
+    /// refused stays as it is.
+    pub fn aim(&mut self, draw: &mut Draw) {
+        let Some((robot, tools)) = self.arms() else {
+            return;
+        };
+        let (mut joints, mut goals) = (self.floats(Joints), self.floats(Goals));
         if draw.word() % 2 == 0 {
-            for (joint, pair) in joints.iter_mut().zip(limits.chunks_exact(2)) {
+            let (lower, upper) = (&robot.lower_joint_limits, &robot.upper_joint_limits);
+            for (joint, (lower, upper)) in joints.iter_mut().zip(lower.iter().zip(upper)) {
                 if draw.word() % 4 != 0 {
-                    *joint = between_limits(draw, pair[0], pair[1]);
+                    *joint = between_limits(draw, *lower, *upper);
                 }
             }
             self.set_floats(Joints, &joints);
@@ -246,22 +264,34 @@ impl Lists {
         if draw.word() % 4 != 0 {
             self.set_floats(History, &recent(draw, &joints));
         }
-        let robot = sheet::robot(&sizes, &codes, &floats, &limits);
         let at = match draw.word() % 2 {
             0 => joints,
             _ => beside(draw, &joints, 0.1),
         };
-        let tools = TOOL_LISTS.map(|list| {
-            let mut floats = Vec::new();
-            f64s(self.get(list), &mut floats);
-            Mounted::of(&floats)
-        });
         let ends = ends(&robot, &tools, &at);
         for (goal, end) in goals.chunks_exact_mut(13).zip(ends.chunks_exact(7)) {
             if draw.word() % 4 != 0 {
                 goal[..7].copy_from_slice(&near_goal(draw, end));
             }
             goal[7..].fill_with(|| tolerance(draw));
+        }
+        self.set_floats(Goals, &goals);
+    }
+
+    /// Puts the goals where the ends are, with what becomes of their rotations. A
+    /// sheet that is refused stays as it is.
+    pub fn meet(&mut self, turn: impl Fn([f64; 4]) -> [f64; 4]) {
+        let Some((robot, tools)) = self.arms() else {
+            return;
+        };
+        let mut goals = self.floats(Goals);
+        let ends = ends(&robot, &tools, &self.floats(Joints));
+        for (goal, end) in goals.chunks_exact_mut(13).zip(ends.chunks_exact(7)) {
+            for (part, at) in goal.iter_mut().zip(&end[..3]) {
+                *part = at.clamp(-100.0, 100.0);
+            }
+            let q = turn(as_turn([end[3], end[4], end[5], end[6]]));
+            goal[3..7].copy_from_slice(&q);
         }
         self.set_floats(Goals, &goals);
     }
@@ -540,8 +570,8 @@ const SIDES: [(Kind, Edge); 2] = [(Kind::Border, Edge::JustIn), (Kind::Outside, 
 pub fn damages(read: &[List]) -> Vec<(Kind, Damage)> {
     let mut all = Vec::new();
     for &list in read {
-        // The tools of all chains are spoilt in the first one's name.
-        if matches!(list, Tool1 | Tool2 | Tool3 | Chain) {
+        // The tools of all chains are spoilt in the first one's name; no pick is wrong.
+        if matches!(list, Tool1 | Tool2 | Tool3 | Chain | Strict) {
             continue;
         }
         let kind = |change: Change| match (list, change) {
@@ -816,6 +846,17 @@ fn is_turn([w, i, j, k]: [f64; 4]) -> bool {
     (0.999999999..=1.000000001).contains(&(w * w + i * i + j * j + k * k))
 }
 
+/// What many offsets make of a turn may be none any more.
+fn as_turn(q: [f64; 4]) -> [f64; 4] {
+    match is_turn(q) {
+        true => q,
+        false => {
+            let length = (q[0] * q[0] + q[1] * q[1] + q[2] * q[2] + q[3] * q[3]).sqrt();
+            q.map(|c| c / length)
+        }
+    }
+}
+
 fn unit(draw: &mut Draw) -> [f64; 4] {
     let q = [0.0; 4].map(|_: f64| draw.between(-1.0, 1.0));
     let size = (q[0] * q[0] + q[1] * q[1] + q[2] * q[2] + q[3] * q[3]).sqrt();
@@ -1010,7 +1051,7 @@ fn recent(draw: &mut Draw, joints: &[f64]) -> Vec<f64> {
     history
 }
 
-/// An end pose, moved or not, turned or not, of either sign.
+/// An end pose, moved or not, turned or not, of either sign, and half a turn away.
 fn near_goal(draw: &mut Draw, end: &[f64]) -> [f64; 7] {
     let size = draw.pick(&[0.0, 0.0, 1e-9, 1e-3, 0.01, 0.1, 1.0]);
     let mut goal = [0.0; 7];
@@ -1026,13 +1067,9 @@ fn near_goal(draw: &mut Draw, end: &[f64]) -> [f64; 7] {
     if size > 0.0 && draw.word() % 2 == 0 {
         q = q.map(|c| c + draw.between(-size, size));
     }
-    // What many offsets make of a turn may be none any more.
-    if !is_turn(q) {
-        let length = (q[0] * q[0] + q[1] * q[1] + q[2] * q[2] + q[3] * q[3]).sqrt();
-        q = q.map(|c| c / length);
-    }
+    q = as_turn(q);
     if draw.word() % 4 == 0 {
-        q = q.map(|c| -c);
+        q = draw.turned(q);
     }
     goal[3..].copy_from_slice(if is_turn(q) { &q } else { &IDENTITY });
     goal

@@ -28,7 +28,7 @@ const fn pace(divisor: u64, share: u64, block: u64) -> Pace {
 /// Nothing to draw.
 pub const CONSTANT: Pace = pace(1, 0, 1);
 pub const LEAF: Pace = pace(1, 10, 2_000_000);
-pub const ARMS: Pace = pace(1, 83, 400_000);
+pub const ARMS: Pace = pace(1, 73, 400_000);
 /// One tool beside a sheet.
 pub const SET_TOOL: Pace = pace(1, 14, 400_000);
 /// The reference makes every frame, objective and entry that it counts.

@@ -199,6 +199,7 @@ mod tests {
     use crate::source::{kinds, Source, WRITTEN};
     use crate::tally::Shown;
     use relaxed_ik::bytes::{put_floats, put_u16s};
+    use relaxed_ik::ObjectiveList;
 
     #[test]
     fn a_nan_matches_a_nan_where_it_is_written() {
@@ -302,6 +303,10 @@ mod tests {
             // The one chain that has one.
             List::Tool => put_floats(&lists.tools.concat(), &mut bytes),
             List::Chain => panic!("in no line"),
+            List::Strict => {
+                let picked = lists.list == ObjectiveList::Strict;
+                bytes.extend(u32::from(picked).to_le_bytes());
+            }
             _ => {
                 let at = name as usize - List::Tool0 as usize;
                 let none = Vec::new();

@@ -102,6 +102,17 @@ pub const CORNERS: [f64; 14] = [
 /// Zeros and ones of both signs.
 pub const SIGNS: [f64; 4] = [0.0, -0.0, 1.0, -1.0];
 
+/// Halves of the angles that a rotation is turned by to lie where something changes:
+/// none, half a turn, a whole one, and those whose sine is that of a small angle in
+/// `quaternion_log`, by 0.005.
+pub const HALVES: [f64; 5] = [
+    0.0,
+    std::f64::consts::FRAC_PI_2,
+    std::f64::consts::PI,
+    0.005000020833567712,
+    std::f64::consts::PI - 0.005000020833567712,
+];
+
 impl Draw {
     pub fn new(seed: u64) -> Self {
         let mut edges = Vec::new();
@@ -240,6 +251,21 @@ impl Draw {
         }
     }
 
+    /// A rotation beside another: the same, the same by the other sign, or turned by
+    /// one of the angles above or a hair more or less.
+    pub fn turned(&mut self, q: [f64; 4]) -> [f64; 4] {
+        match self.word() % 4 {
+            0 => q,
+            1 => q.map(|part| -part),
+            way => {
+                let hair = if way == 2 { 0.0 } else { self.small(60) };
+                let half = self.pick(&HALVES) + hair;
+                let axis = self.vector(Kind::Range);
+                turned(q, half, axis)
+            }
+        }
+    }
+
     /// With w a zero of either sign, without turn, or with zeros among parts of
     /// equal size.
     fn quaternion_of_signs(&mut self, [_, i, j, k]: [f64; 4]) -> [f64; 4] {
@@ -260,6 +286,19 @@ fn normal(q: [f64; 4]) -> [f64; 4] {
     } else {
         q
     }
+}
+
+/// A rotation turned about an axis by twice the angle.
+pub fn turned([w, i, j, k]: [f64; 4], half: f64, axis: [f64; 3]) -> [f64; 4] {
+    let size = axis.iter().map(|v| v * v).sum::<f64>().sqrt();
+    let [x, y, z] = axis.map(|v| half.sin() * v / size);
+    let c = half.cos();
+    [
+        w * c - i * x - j * y - k * z,
+        w * x + i * c + j * z - k * y,
+        w * y - i * z + j * c + k * x,
+        w * z + i * y - j * x + k * c,
+    ]
 }
 
 /// Every way to put the values into N places.
@@ -313,6 +352,32 @@ mod tests {
         assert!(NANS.iter().all(|&bits| has(bits)));
         assert!(has((-700.0f64).next_down().to_bits()));
         assert!(has(f64::MIN_POSITIVE.next_down().to_bits()));
+    }
+
+    /// Both signs, half a turn, and small angles on either side of the bound.
+    #[test]
+    fn turns_lie_where_something_changes() {
+        let mut draw = Draw::new(1);
+        let (mut same, mut opposite, mut half, mut small) = (0, 0, 0, [0, 0]);
+        for _ in 0..10_000 {
+            let q = draw.quaternion(Kind::Range);
+            let turned = draw.turned(q);
+            let dot: f64 = q.iter().zip(turned).map(|(a, b)| a * b).sum();
+            let size: f64 = turned.iter().map(|v| v * v).sum();
+            assert!((size - 1.0).abs() < 1e-14);
+            same += i32::from(turned == q);
+            opposite += i32::from(turned == q.map(|part| -part));
+            half += i32::from(dot.abs() < 1e-15);
+            let sine = (1.0 - dot * dot).max(0.0).sqrt();
+            if (sine - 0.005).abs() < 1e-5 {
+                small[usize::from(sine < 0.005)] += 1;
+            }
+        }
+        assert!(same > 1000 && opposite > 1000, "{same}, {opposite}");
+        assert!(
+            half > 300 && small[0] > 100 && small[1] > 100,
+            "{half}, {small:?}"
+        );
     }
 
     #[test]

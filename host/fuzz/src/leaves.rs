@@ -5,12 +5,15 @@ use crate::input::Input;
 use compare::draw::Draw;
 use compare::geometry::{four, points_of, three, unit, vector};
 use compare::run::{matches, show};
-use nalgebra::{DMatrix, Point3};
+use nalgebra::{DMatrix, Point3, UnitQuaternion};
 use parry3d_f64::{query, shape::Segment};
 use reference::groove::objective::{groove_loss, swamp_groove_loss, swamp_loss};
 use reference::losses as published;
 use reference::refusals::{f64s, List};
 use reference::spacetime::arm::{get_quat_x, get_quat_y, get_quat_z};
+use reference::utils_rust::transformations::{
+    angle_between_quaternion, quaternion_disp, quaternion_log,
+};
 use relaxed_ik::leaves::{self, Axis};
 use std::array::from_fn;
 
@@ -24,7 +27,7 @@ type Numbers = [f64; NUMBERS];
 type Side = fn(Numbers) -> Vec<f64>;
 
 /// Name, proved, reference.
-const LEAVES: [(&str, Side, Side); 24] = [
+const LEAVES: [(&str, Side, Side); 31] = [
     ("sqrt", |x| vec![leaves::sqrt(x[0])], |x| vec![x[0].sqrt()]),
     (
         "sin",
@@ -45,6 +48,11 @@ const LEAVES: [(&str, Side, Side); 24] = [
         "atan2",
         |x| vec![leaves::atan2(x[0], x[1])],
         |x| vec![standins::atan2(x[0], x[1])],
+    ),
+    (
+        "acos",
+        |x| vec![leaves::acos(x[0])],
+        |x| vec![standins::acos(x[0])],
     ),
     (
         "power20",
@@ -108,6 +116,26 @@ const LEAVES: [(&str, Side, Side); 24] = [
         |x| three(unit(part(x, 0)).scaled_axis()).to_vec(),
     ),
     (
+        "from_quaternion",
+        |x| leaves::from_quaternion(part(x, 0)).to_vec(),
+        |x| four(UnitQuaternion::from_quaternion(*unit(part(x, 0)))).to_vec(),
+    ),
+    (
+        "quaternion_log",
+        |x| leaves::quaternion_log(part(x, 0)).to_vec(),
+        |x| three(quaternion_log(unit(part(x, 0)))).to_vec(),
+    ),
+    (
+        "quaternion_disp",
+        |x| leaves::quaternion_disp(part(x, 0), part(x, 4)).to_vec(),
+        |x| three(quaternion_disp(unit(part(x, 0)), unit(part(x, 4)))).to_vec(),
+    ),
+    (
+        "angle_between_quaternion",
+        |x| vec![leaves::angle_between_quaternion(part(x, 0), part(x, 4))],
+        |x| vec![angle_between_quaternion(unit(part(x, 0)), unit(part(x, 4)))],
+    ),
+    (
         "segment_distance",
         |x| vec![leaves::segment_distance(points_of(x))],
         |x| vec![segment_distance(x)],
@@ -162,6 +190,21 @@ const LEAVES: [(&str, Side, Side); 24] = [
         "loss_limits",
         |x| vec![leaves::loss_limits(x[0], x[1], x[2])],
         |x| vec![published::limits(x[0], &published::limited(x[1], x[2]))],
+    ),
+    (
+        "loss_pos_goals",
+        |x| vec![leaves::loss_pos_goals(part(x, 0), part(x, 3))],
+        |x| {
+            vec![published::position_goal(
+                vector(part(x, 0)),
+                vector(part(x, 3)),
+            )]
+        },
+    ),
+    (
+        "loss_quat_goals",
+        |x| vec![leaves::loss_quat_goals(part(x, 0), part(x, 4))],
+        |x| vec![published::rotation_goal(unit(part(x, 0)), unit(part(x, 4)))],
     ),
 ];
 

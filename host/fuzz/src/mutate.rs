@@ -88,7 +88,11 @@ fn bytes(input: &mut Input, draw: &mut Draw, keep: bool, plain: &mut impl FnMut(
 /// One float becomes a neighbour, its negative, an edge, or any.
 fn float(input: &mut Input, draw: &mut Draw) {
     let mut lists = input.call.read().to_vec();
-    lists.retain(|list| !matches!(list, List::Sizes | List::Codes | List::Chain));
+    let floats = |list: &List| {
+        use List::{Chain, Codes, Sizes, Strict};
+        !matches!(list, Sizes | Codes | Chain | Strict)
+    };
+    lists.retain(floats);
     let list = draw.pick(&lists);
     let mut bytes = input.lists.get(list).to_vec();
     let count = bytes.len() / 8;

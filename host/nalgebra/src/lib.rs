@@ -1,7 +1,7 @@
 //! As much of nalgebra's face as the published files use, so that their `use`
 //! lines and calls stay as they are. What an operation computes is what
-//! document 01's section 'Stand-ins' says, each step rounding once, left to
-//! right; where that paper says nothing, the comment here says so.
+//! document 01's section 'Stand-ins' and document 02 say, each step rounding once,
+//! left to right; where the papers say nothing, the comment here says so.
 
 #![forbid(unsafe_code)]
 // Formulas are spelled as the paper spells them.
@@ -78,7 +78,8 @@ impl Index<usize> for Vector3<f64> {
     }
 }
 
-/// Asked for by transformations.rs alone, which `relaxed_ik` does not reach.
+/// Asked for by a function of transformations.rs alone that no list of objectives
+/// reaches.
 #[derive(Clone, Copy, Debug, PartialEq)]
 pub struct Vector4<T>([T; 4]);
 
@@ -188,8 +189,8 @@ impl UnitQuaternion<f64> {
         Self::new_unchecked(Quaternion::new(1.0, 0.0, 0.0, 0.0))
     }
 
-    /// Divided by the root of the squares' sum. Document 01 has no stand-in
-    /// for it and `relaxed_ik` does not reach it.
+    /// Divided by the root of the squares' sum, w first, as document 02's change 4
+    /// says.
     pub fn from_quaternion(q: Quaternion<f64>) -> Self {
         let norm = sqrt(q.w * q.w + q.i * q.i + q.j * q.j + q.k * q.k);
         Self::new_unchecked(Quaternion::new(
@@ -472,6 +473,20 @@ mod tests {
         assert!((axis.z - std::f64::consts::FRAC_PI_2).abs() < 1e-15);
         let back = turn * turn.inverse();
         assert!((back.w - 1.0).abs() < 1e-15 && back.k == 0.0);
+    }
+
+    #[test]
+    fn a_quaternion_divided_by_its_length() {
+        let q = UnitQuaternion::from_quaternion(Quaternion::new(-2.0, 0.0, 2.0, -1.0));
+        let third = [q.w, q.i, q.j, q.k].map(|part| part * 3.0);
+        assert_eq!(third, [-2.0, 0.0, 2.0, -1.0]);
+        // Summed from w on: from k on, the ones would not be lost.
+        let q = UnitQuaternion::from_quaternion(Quaternion::new(1e8, 1.0, 1.0, 1.0));
+        assert_eq!(q.w, 1.0);
+        let none = UnitQuaternion::from_quaternion(Quaternion::new(0.0, 0.0, -0.0, 0.0));
+        assert!([none.w, none.i, none.j, none.k]
+            .iter()
+            .all(|part| part.is_nan()));
     }
 
     #[test]

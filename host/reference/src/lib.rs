@@ -1,11 +1,12 @@
 //! The published files of relaxed_ik_core (commit 1c48d2ae40, MIT, see
 //! LICENSE), run on document 01's stand-ins. README.md lists every place where
-//! a file differs from the published one. `sheet`, `weights`, `tools`, `refusals`,
-//! `record`, `sizing` and `losses` are ours: the first makes the published
-//! structures from plain numbers, the second sets other weights in them, the third
-//! puts tools behind their last frames, the fourth says which numbers the papers
-//! refuse, the fifth walks document 01's separate copies, the sixth counts what all
-//! of these make of a sheet, the last asks the objectives for single losses.
+//! a file differs from the published one. Ours are `sheet`, which makes the
+//! published structures from plain numbers, `strict`, which picks the list of
+//! objectives, `weights`, which sets other weights in it, `tools`, which puts tools
+//! behind the last frames, `refusals`, which says which numbers the papers refuse,
+//! `record`, which walks document 01's separate copies, `sizing`, which counts what
+//! all of these make of a sheet, and `losses`, which asks the objectives for single
+//! losses.
 
 #![forbid(unsafe_code)]
 // The published files are left as they are written.
@@ -40,6 +41,8 @@ pub mod refusals;
 pub mod sheet;
 #[warn(dead_code, non_snake_case, unused, clippy::all)]
 pub mod sizing;
+#[warn(dead_code, non_snake_case, unused, clippy::all)]
+pub mod strict;
 #[warn(dead_code, non_snake_case, unused, clippy::all)]
 pub mod tools;
 #[warn(dead_code, non_snake_case, unused, clippy::all)]

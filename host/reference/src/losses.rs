@@ -3,14 +3,17 @@
 //! frames, which reaches neither every float nor every zero's sign; so the
 //! choice by tolerance is written here once more, from document 01's notes on
 //! `objective.rs`, over the published losses. `tests/losses.rs` holds it
-//! against the published objectives.
+//! against the published objectives. The strict ones take a whole end pose and are
+//! asked as they are.
 
 use crate::groove::objective::{
-    groove_loss, swamp_groove_loss, swamp_loss, EachJointLimits, ObjectiveTrait,
+    groove_loss, swamp_groove_loss, swamp_loss, EachJointLimits, MatchEEPosGoals, MatchEEQuatGoals,
+    ObjectiveTrait,
 };
 use crate::groove::vars::RelaxedIKVars;
 use crate::sheet;
 use crate::spacetime::robot::Robot;
+use nalgebra::{UnitQuaternion, Vector3};
 
 /// `MatchEEPosiDoF` of one coordinate's distance.
 pub fn position(dist: f64, bound: f64) -> f64 {
@@ -33,17 +36,37 @@ pub fn rotation(angle: f64, bound: f64) -> f64 {
     }
 }
 
-/// A state with nothing in it but one joint's limits, which is all that
-/// `EachJointLimits` looks at.
-pub fn limited(lower: f64, upper: f64) -> RelaxedIKVars {
+/// No chains, and joints with these limits.
+fn armless(lower: Vec<f64>, upper: Vec<f64>) -> RelaxedIKVars {
     sheet::loaded(Robot {
         arms: Vec::new(),
         num_chains: 0,
-        num_dofs: 1,
+        num_dofs: lower.len(),
         chain_lengths: Vec::new(),
-        lower_joint_limits: vec![lower],
-        upper_joint_limits: vec![upper],
+        lower_joint_limits: lower,
+        upper_joint_limits: upper,
     })
+}
+
+/// The published `MatchEEPosGoals` of a goal's position and an end's, which is all
+/// that it looks at.
+pub fn position_goal(goal: Vector3<f64>, end: Vector3<f64>) -> f64 {
+    let mut vars = armless(Vec::new(), Vec::new());
+    vars.goal_positions.push(goal);
+    MatchEEPosGoals::new(0).call(&[], &vars, &vec![(vec![end], Vec::new())])
+}
+
+/// The published `MatchEEQuatGoals` of a goal's rotation and an end's.
+pub fn rotation_goal(goal: UnitQuaternion<f64>, end: UnitQuaternion<f64>) -> f64 {
+    let mut vars = armless(Vec::new(), Vec::new());
+    vars.goal_quats.push(goal);
+    MatchEEQuatGoals::new(0).call(&[], &vars, &vec![(Vec::new(), vec![end])])
+}
+
+/// A state with nothing in it but one joint's limits, which is all that
+/// `EachJointLimits` looks at.
+pub fn limited(lower: f64, upper: f64) -> RelaxedIKVars {
+    armless(vec![lower], vec![upper])
 }
 
 /// The published `EachJointLimits` of the joint of `limited`.

@@ -9,14 +9,13 @@ use crate::groove::objective_master::ObjectiveMaster;
 use crate::groove::vars::RelaxedIKVars;
 use crate::sheet::{end, quaternion, LINK_FLOATS};
 use crate::spacetime::robot::Robot;
+use crate::strict::Pick;
 use nalgebra::{UnitQuaternion, Vector3};
 
 /// Floats of a tool: displacement, then quaternion, as a link has them.
 pub const TOOL_FLOATS: usize = LINK_FLOATS;
 /// Tool lists that a call is lent: as many as there can be chains.
 pub const TOOLS: usize = 4;
-/// The published list begins with these for each chain, chain after chain.
-pub const GOAL_OBJECTIVES: usize = 6;
 
 type Pose = (Vector3<f64>, UnitQuaternion<f64>);
 type Frames = Vec<(Vec<Vector3<f64>>, Vec<UnitQuaternion<f64>>)>;
@@ -113,11 +112,11 @@ impl ObjectiveTrait for AtTip {
     }
 }
 
-/// The master whose goal objectives see these tools. Its weights stay.
-pub fn with_tools(mut master: ObjectiveMaster, tools: &Tools) -> ObjectiveMaster {
-    let goal_objectives = GOAL_OBJECTIVES * master.num_chains;
+/// The picked master whose goal objectives see these tools. Its weights stay.
+pub fn with_tools(pick: Pick, mut master: ObjectiveMaster, tools: &Tools) -> ObjectiveMaster {
+    let goal_objectives = pick.goal_objectives() * master.num_chains;
     let at_tip = |(at, objective)| {
-        let chain = at / GOAL_OBJECTIVES;
+        let chain = at / pick.goal_objectives();
         match tools.get(chain) {
             Some(Some(tool)) if at < goal_objectives => Box::new(AtTip {
                 objective,

@@ -3,6 +3,7 @@
 //! here; `refusals` is to be asked first.
 
 use crate::groove::objective_master::ObjectiveMaster;
+use crate::strict::Pick;
 
 /// Position, rotation, limits, velocity, acceleration, jerk, manipulability,
 /// pairs.
@@ -26,9 +27,9 @@ pub struct Weighted {
 }
 
 impl Weighted {
-    /// As published.
-    pub fn new(chain_lengths: &[usize]) -> Self {
-        let master = ObjectiveMaster::relaxed_ik(chain_lengths);
+    /// With the weights as published. Those of either list tell the kinds.
+    pub fn new(pick: Pick, chain_lengths: &[usize]) -> Self {
+        let master = pick.master(chain_lengths);
         let (published, table) = (master.weight_priors.clone(), built_in());
         let kind = |prior: &f64| table.iter().position(|weight| weight == prior);
         let kinds = published.iter().map(kind);
@@ -52,8 +53,8 @@ impl Weighted {
 }
 
 /// The published master with these weights, or with its own for an empty list.
-pub fn master(chain_lengths: &[usize], weights: &[f64]) -> ObjectiveMaster {
-    let mut weighted = Weighted::new(chain_lengths);
+pub fn master(pick: Pick, chain_lengths: &[usize], weights: &[f64]) -> ObjectiveMaster {
+    let mut weighted = Weighted::new(pick, chain_lengths);
     weighted.set(weights);
     weighted.master
 }

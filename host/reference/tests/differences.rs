@@ -6,9 +6,10 @@ use reference::groove::vars::RelaxedIKVars;
 use reference::sheet;
 use reference::spacetime::arm::Arm;
 use reference::spacetime::robot::Robot;
+use reference::strict::Pick;
 use reference::tools::{self, TOOLS};
 use reference::weights;
-use relaxed_ik::{Given, Sheet};
+use relaxed_ik::{Given, ObjectiveList, Sheet};
 use std::panic;
 
 /// What is lent to a call: two links up 1, turning about z, the goal where they end.
@@ -110,8 +111,8 @@ fn published(lists: &Lists) -> Option<f64> {
     let lists = lists.clone();
     let run = move || {
         let vars = vars(&lists);
-        let master = weights::master(&vars.robot.chain_lengths, &lists.weights);
-        let master = tools::with_tools(master, &tools::tools(&lists.tools));
+        let master = weights::master(Pick::Tolerance, &vars.robot.chain_lengths, &lists.weights);
+        let master = tools::with_tools(Pick::Tolerance, master, &tools::tools(&lists.tools));
         master.call(&lists.joints, &vars)
     };
     panic::catch_unwind(run).ok()
@@ -131,6 +132,7 @@ fn proved(lists: &Lists) -> Result<f64, u32> {
         history: &lists.blocks.concat(),
         weights: &lists.weights,
         tools: lists.tools.each_ref().map(|tool| &tool[..]),
+        list: ObjectiveList::Tolerance,
     };
     given
         .objective(&lists.joints)

@@ -6,6 +6,7 @@ mod lists;
 use lists::{chains, Lists};
 use reference::refusals::*;
 use reference::sizing::plan;
+use reference::strict::Pick;
 use reference::tools::TOOLS;
 
 const GOAL: [f64; 13] = [
@@ -18,7 +19,11 @@ impl Lists {
     }
 
     fn plan(&self) -> [usize; 4] {
-        plan(&self.sizes, &self.codes, &self.floats).map(usize::from)
+        self.plan_of(Pick::Tolerance)
+    }
+
+    fn plan_of(&self, pick: Pick) -> [usize; 4] {
+        plan(pick, &self.sizes, &self.codes, &self.floats).map(usize::from)
     }
 
     fn frames(&self, positions: usize, rotations: usize) -> u32 {
@@ -65,6 +70,18 @@ fn small_plans() {
     assert_eq!(chains(SHAPES[1]).plan(), [15, 24, 12, 9]);
     // 105 pairs of 16 joints, 16 limits, 6 of the end, 4 more.
     assert_eq!(chains(SHAPES[2]).plan(), [51, 72, 131, 152]);
+}
+
+/// The strict list has four objectives fewer for each chain, and nothing else of a
+/// plan depends on the pick.
+#[test]
+fn the_strict_list_is_shorter() {
+    for shape in SHAPES {
+        let lists = chains(shape);
+        let mut expected = lists.plan();
+        expected[2] -= 4 * shape.len();
+        assert_eq!(lists.plan_of(Pick::Strict), expected, "{shape:?}");
+    }
 }
 
 /// A planned length is never too short, and one entry fewer always is.

@@ -10,7 +10,8 @@ use reference::record::record;
 use reference::sheet;
 use reference::spacetime::arm::Arm;
 use reference::spacetime::robot::Robot;
-use reference::tools::{ends, reset, tools, with_tools, Tools, GOAL_OBJECTIVES, TOOLS};
+use reference::strict::Pick;
+use reference::tools::{ends, reset, tools, with_tools, Tools, TOOLS};
 use robots::{goals, robot, JOINTS};
 
 type List = Vec<f64>;
@@ -121,25 +122,27 @@ fn vars(robot: &Robot) -> RelaxedIKVars {
     vars
 }
 
-/// The published list begins with the goal objectives of each chain, which is told
-/// by their weights.
+/// Either list begins with the goal objectives of each chain, which is told by their
+/// weights.
 #[test]
 fn goal_objectives_come_first() {
-    for lengths in [&[2][..], &[6, 3], &[4, 4, 4, 4]] {
-        let priors = ObjectiveMaster::relaxed_ik(lengths).weight_priors;
-        let front = GOAL_OBJECTIVES * lengths.len();
-        let of_goals = |weight: &f64| *weight == 50.0 || *weight == 10.0;
-        assert!(priors[..front].iter().all(of_goals));
-        assert!(!priors[front..].iter().any(of_goals));
+    for pick in Pick::BOTH {
+        for lengths in [&[2][..], &[6, 3], &[4, 4, 4, 4]] {
+            let priors = pick.master(lengths).weight_priors;
+            let front = pick.goal_objectives() * lengths.len();
+            let of_goals = |weight: &f64| *weight == 50.0 || *weight == 10.0;
+            assert!(priors[..front].iter().all(of_goals));
+            assert!(!priors[front..].iter().any(of_goals));
+        }
     }
 }
 
 /// The costs of all objectives: those of goals as on the arms with a fixed link
 /// more, whose frames they see, all others as on the arms without.
-fn costs(robot: &Robot, lists: &[List; TOOLS], x: &[f64]) -> Vec<f64> {
+fn costs(pick: Pick, robot: &Robot, lists: &[List; TOOLS], x: &[f64]) -> Vec<f64> {
     let (plain, longer) = (vars(robot), vars(&longer_robot(robot, lists)));
-    let master = ObjectiveMaster::relaxed_ik(&robot.chain_lengths);
-    let front = GOAL_OBJECTIVES * robot.num_chains;
+    let master = pick.master(&robot.chain_lengths);
+    let front = pick.goal_objectives() * robot.num_chains;
     let cost = |at: usize| {
         let vars = if at < front { &longer } else { &plain };
         let frames = vars.robot.get_frames_immutable(x);
@@ -154,16 +157,16 @@ fn sum(weights: &[f64], costs: &[f64]) -> f64 {
 }
 
 /// The value, and both slopes raised joint by joint, from costs as above.
-#[test]
-fn goals_see_the_tool_and_nothing_else_does() {
+fn goals_see_the_tool(pick: Pick) {
     let robot = robot();
     let vars = vars(&robot);
     all(|tool, lists, x| {
-        let master = ObjectiveMaster::relaxed_ik(&robot.chain_lengths);
+        let master = pick.master(&robot.chain_lengths);
         let weights = master.weight_priors.clone();
-        let master = with_tools(master, &tools(lists));
+        let master = with_tools(pick, master, &tools(lists));
         assert_eq!(master.weight_priors, weights);
-        let at_rest = costs(&robot, lists, x);
+        let costs = |x: &[f64]| costs(pick, &robot, lists, x);
+        let at_rest = costs(x);
         let value = sum(&weights, &at_rest);
         let raised = |step: f64| {
             (0..x.len()).map(move |joint| {
@@ -173,15 +176,14 @@ fn goals_see_the_tool_and_nothing_else_does() {
             })
         };
         let slope = |raised: Vec<f64>| {
-            let costs = costs(&robot, lists, &raised);
+            let costs = costs(&raised);
             let parts = weights.iter().zip(at_rest.iter().zip(&costs));
             parts.fold(0.0, |sum, (weight, (before, after))| {
                 sum + weight * ((-before + after) / 0.0000001)
             })
         };
         let slopes: Vec<f64> = raised(0.0000001).map(slope).collect();
-        let coarse =
-            |raised: Vec<f64>| (-value + sum(&weights, &costs(&robot, lists, &raised))) / 0.000001;
+        let coarse = |raised: Vec<f64>| (-value + sum(&weights, &costs(&raised))) / 0.000001;
         let coarse: Vec<f64> = raised(0.000001).map(coarse).collect();
         assert_eq!(master.call(x, &vars).to_bits(), value.to_bits(), "{tool:?}");
         let (found, own) = master.gradient(x, &vars);
@@ -193,6 +195,11 @@ fn goals_see_the_tool_and_nothing_else_does() {
     });
 }
 
+#[test]
+fn goals_see_the_tool_and_nothing_else_does() {
+    Pick::BOTH.into_iter().for_each(goals_see_the_tool);
+}
+
 /// Without a tool everything is the published answer; with one the value moves,
 /// and the record does not look at it.
 #[test]
@@ -202,7 +209,7 @@ fn without_tools_all_is_as_published() {
     let none: Tools = [None; TOOLS];
     let published = ObjectiveMaster::relaxed_ik(&robot.chain_lengths);
     let master = || ObjectiveMaster::relaxed_ik(&robot.chain_lengths);
-    let own = with_tools(master(), &none);
+    let own = with_tools(Pick::Tolerance, master(), &none);
     assert_eq!(own.call(&JOINTS, &vars), published.call(&JOINTS, &vars));
     assert_eq!(
         own.gradient(&JOINTS, &vars),
@@ -210,7 +217,7 @@ fn without_tools_all_is_as_published() {
     );
     assert_eq!(ends(&robot, &none, &JOINTS), sheet::ends(&robot, &JOINTS));
     for lists in &mounts(KINDS[0])[..3] {
-        let own = with_tools(master(), &tools(lists));
+        let own = with_tools(Pick::Tolerance, master(), &tools(lists));
         assert_ne!(own.call(&JOINTS, &vars), published.call(&JOINTS, &vars));
         let longer = record(&longer_robot(&robot, lists), &JOINTS);
         assert_ne!(record(&robot, &JOINTS), longer);

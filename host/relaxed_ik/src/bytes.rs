@@ -31,6 +31,7 @@ mod c {
             floats_length: usize,
             plan: *mut u8,
             plan_length: usize,
+            strict: u32,
         ) -> u32;
         pub fn relaxed_ik_set_goals(
             sizes: *const u8,
@@ -177,6 +178,7 @@ mod c {
             joints_length: usize,
             value: *mut u8,
             value_length: usize,
+            strict: u32,
         ) -> u32;
         pub fn relaxed_ik_gradient(
             sizes: *const u8,
@@ -209,6 +211,7 @@ mod c {
             value_length: usize,
             slopes: *mut u8,
             slopes_length: usize,
+            strict: u32,
         ) -> u32;
         pub fn relaxed_ik_gradient_finite_diff(
             sizes: *const u8,
@@ -241,6 +244,7 @@ mod c {
             value_length: usize,
             slopes: *mut u8,
             slopes_length: usize,
+            strict: u32,
         ) -> u32;
         pub fn relaxed_ik_gradient_one_block(
             sizes: *const u8,
@@ -277,12 +281,14 @@ mod c {
             record_links_length: usize,
             record_poses: *mut u8,
             record_poses_length: usize,
+            strict: u32,
         ) -> u32;
         pub fn relaxed_ik_sqrt(x: f64) -> f64;
         pub fn relaxed_ik_sin(a: f64) -> f64;
         pub fn relaxed_ik_cos(a: f64) -> f64;
         pub fn relaxed_ik_exp(y: f64) -> f64;
         pub fn relaxed_ik_atan2(n: f64, w: f64) -> f64;
+        pub fn relaxed_ik_acos(w: f64) -> f64;
         pub fn relaxed_ik_power20(a: f64) -> f64;
         pub fn relaxed_ik_power30(a: f64) -> f64;
         pub fn relaxed_ik_b20() -> f64;
@@ -323,6 +329,29 @@ mod c {
         pub fn relaxed_ik_norm(x: f64, y: f64, z: f64) -> f64;
         pub fn relaxed_ik_get_quat(axis: u32, v: f64, part: u32) -> f64;
         pub fn relaxed_ik_scaled_axis(w: f64, i: f64, j: f64, k: f64, part: u32) -> f64;
+        pub fn relaxed_ik_from_quaternion(w: f64, i: f64, j: f64, k: f64, part: u32) -> f64;
+        pub fn relaxed_ik_quaternion_log(w: f64, i: f64, j: f64, k: f64, part: u32) -> f64;
+        pub fn relaxed_ik_quaternion_disp(
+            w: f64,
+            i: f64,
+            j: f64,
+            k: f64,
+            w2: f64,
+            i2: f64,
+            j2: f64,
+            k2: f64,
+            part: u32,
+        ) -> f64;
+        pub fn relaxed_ik_angle_between_quaternion(
+            w: f64,
+            i: f64,
+            j: f64,
+            k: f64,
+            w2: f64,
+            i2: f64,
+            j2: f64,
+            k2: f64,
+        ) -> f64;
         pub fn relaxed_ik_segment_distance(
             ax: f64,
             ay: f64,
@@ -366,6 +395,17 @@ mod c {
         pub fn relaxed_ik_loss_position(dist: f64, bound: f64) -> f64;
         pub fn relaxed_ik_loss_rotation(angle: f64, bound: f64) -> f64;
         pub fn relaxed_ik_loss_limits(x: f64, l: f64, u: f64) -> f64;
+        pub fn relaxed_ik_loss_pos_goals(gx: f64, gy: f64, gz: f64, x: f64, y: f64, z: f64) -> f64;
+        pub fn relaxed_ik_loss_quat_goals(
+            gw: f64,
+            gi: f64,
+            gj: f64,
+            gk: f64,
+            w: f64,
+            i: f64,
+            j: f64,
+            k: f64,
+        ) -> f64;
     }
 }
 
@@ -432,6 +472,8 @@ numbers! {
     exp = relaxed_ik_exp(y: f64);
     /// Of n > 0 and w >= 0.
     atan2 = relaxed_ik_atan2(n: f64, w: f64);
+    /// Of -1 < w < 1.
+    acos = relaxed_ik_acos(w: f64);
     power20 = relaxed_ik_power20(a: f64);
     power30 = relaxed_ik_power30(a: f64);
     /// The constant b of the losses for the 20th power.
@@ -455,6 +497,14 @@ numbers! {
     get_quat = relaxed_ik_get_quat(axis: u32, v: f64, part: u32);
     /// A part from 0 to 2 for x, y, z; a NaN for another.
     scaled_axis = relaxed_ik_scaled_axis(w: f64, i: f64, j: f64, k: f64, part: u32);
+    /// Divided by its length; a part from 0 to 3 for w, i, j, k, a NaN for another.
+    from_quaternion = relaxed_ik_from_quaternion(w: f64, i: f64, j: f64, k: f64, part: u32);
+    /// A part from 0 to 2 for x, y, z; a NaN for another.
+    quaternion_log = relaxed_ik_quaternion_log(w: f64, i: f64, j: f64, k: f64, part: u32);
+    /// The logarithm of the turn from the first to the second; parts as there.
+    quaternion_disp = relaxed_ik_quaternion_disp(w: f64, i: f64, j: f64, k: f64, w2: f64, i2: f64, j2: f64, k2: f64, part: u32);
+    /// The angle of the turn from the first to the second.
+    angle_between_quaternion = relaxed_ik_angle_between_quaternion(w: f64, i: f64, j: f64, k: f64, w2: f64, i2: f64, j2: f64, k2: f64);
     /// From a to b, and from c to d.
     segment_distance = relaxed_ik_segment_distance(ax: f64, ay: f64, az: f64, bx: f64, by: f64, bz: f64, cx: f64, cy: f64, cz: f64, dx: f64, dy: f64, dz: f64);
 }
@@ -473,6 +523,11 @@ numbers! {
     loss_rotation = relaxed_ik_loss_rotation(angle: f64, bound: f64);
     /// A joint between its limits.
     loss_limits = relaxed_ik_loss_limits(x: f64, l: f64, u: f64);
+    /// A strict goal's position and an end's.
+    loss_pos_goals = relaxed_ik_loss_pos_goals(gx: f64, gy: f64, gz: f64, x: f64, y: f64, z: f64);
+    /// A strict goal's rotation and an end's, which counts by the nearer of its two
+    /// signs.
+    loss_quat_goals = relaxed_ik_loss_quat_goals(gw: f64, gi: f64, gj: f64, gk: f64, w: f64, i: f64, j: f64, k: f64);
 }
 
 // Safety, for every call below: each list is a slice, so it is there in full
@@ -505,15 +560,16 @@ pub struct Sheet<'a> {
 pub type Tools<'a> = [&'a [u8]; crate::MOST_CHAINS];
 
 /// Names a call of `c`, then the sheet's lists and the call's own, each as
-/// pointer and length.
+/// pointer and length, and the number behind them, if it has one.
 macro_rules! call {
-    ($name:ident, $sheet:expr $(, read $first:expr)*, tools $tools:expr $(, read $then:expr)* $(, write $write:expr)*) => {
+    ($name:ident, $sheet:expr $(, read $first:expr)*, tools $tools:expr $(, read $then:expr)* $(, write $write:expr)* $(, number $number:expr)?) => {
         call!(
             $name, $sheet
             $(, read $first)*,
             read $tools[0], read $tools[1], read $tools[2], read $tools[3]
             $(, read $then)*
             $(, write $write)*
+            $(, number $number)?
         )
     };
     ($name:ident, $sheet:expr $(, read $read:expr)* $(, write $write:expr)* $(, number $number:expr)?) => {
@@ -535,9 +591,10 @@ pub fn load(sheet: Sheet) -> u32 {
     call!(relaxed_ik_load, sheet)
 }
 
-/// Four u16s: the floats of both lists of `frames`, the objectives, and the
+/// Four u16s: the floats of both lists of `frames`, the objectives of the list that
+/// is picked (0 the tolerance list, any other number the strict one), and the
 /// entries of the one-block call's record. It is lent no limits.
-pub fn sizing(sizes: &[u8], codes: &[u8], floats: &[u8], plan: &mut [u8]) -> u32 {
+pub fn sizing(sizes: &[u8], codes: &[u8], floats: &[u8], plan: &mut [u8], strict: u32) -> u32 {
     unsafe {
         c::relaxed_ik_sizing(
             sizes.as_ptr(),
@@ -548,6 +605,7 @@ pub fn sizing(sizes: &[u8], codes: &[u8], floats: &[u8], plan: &mut [u8]) -> u32
             floats.len(),
             plan.as_mut_ptr(),
             plan.len(),
+            strict,
         )
     }
 }
@@ -601,7 +659,8 @@ pub fn set_weights(weights: &[u8]) -> u32 {
     unsafe { c::relaxed_ik_set_weights(weights.as_ptr(), weights.len()) }
 }
 
-/// What the objective and its slopes are lent first.
+/// What the objective and its slopes are lent first, and the number that comes
+/// last.
 #[cfg(feature = "objective")]
 #[derive(Clone, Copy, Debug)]
 pub struct Given<'a> {
@@ -611,6 +670,8 @@ pub struct Given<'a> {
     /// No byte for the built-in ones.
     pub weights: &'a [u8],
     pub tools: Tools<'a>,
+    /// 0 picks the tolerance list, any other number the strict one.
+    pub strict: u32,
 }
 
 /// The three lists of the one-block call's record, an entry for each walked
@@ -630,7 +691,7 @@ pub fn objective(given: Given, joints: &[u8], value: &mut [u8]) -> u32 {
     call!(
         relaxed_ik_objective, given.sheet,
         read given.goals, read given.history, read given.weights, tools given.tools, read joints,
-        write value
+        write value, number given.strict
     )
 }
 
@@ -647,7 +708,7 @@ pub fn gradient(
     call!(
         relaxed_ik_gradient, given.sheet,
         read given.goals, read given.history, read given.weights, tools given.tools, read joints,
-        write scratch, write value, write slopes
+        write scratch, write value, write slopes, number given.strict
     )
 }
 
@@ -663,7 +724,7 @@ pub fn gradient_finite_diff(
     call!(
         relaxed_ik_gradient_finite_diff, given.sheet,
         read given.goals, read given.history, read given.weights, tools given.tools, read joints,
-        write scratch, write value, write slopes
+        write scratch, write value, write slopes, number given.strict
     )
 }
 
@@ -680,6 +741,6 @@ pub fn gradient_one_block(
         relaxed_ik_gradient_one_block, given.sheet,
         read given.goals, read given.history, read given.weights, tools given.tools, read joints,
         write value, write slopes,
-        write record.joints, write record.links, write record.poses
+        write record.joints, write record.links, write record.poses, number given.strict
     )
 }

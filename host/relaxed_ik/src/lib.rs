@@ -2,11 +2,11 @@
 //! [`Refusal`]s out. All unsafe code is in [`bytes`].
 //!
 //! The calls keep no state. A [`Sheet`] is lent to each of them, with goals,
-//! history, weights and tools where they are used; they answer from these alone.
-//! So nothing has to be loaded before: each call looks at everything it is lent,
-//! and [`Sheet::load`], [`Sheet::set_goals`], [`Sheet::set_tool`] and
-//! [`set_weights`] do only that. How long the frame lists and the record are,
-//! [`Plan`] says.
+//! history, weights, tools and the pick of an [`ObjectiveList`] where they are
+//! used; they answer from these alone. So nothing has to be loaded before: each
+//! call looks at everything it is lent, and [`Sheet::load`], [`Sheet::set_goals`],
+//! [`Sheet::set_tool`] and [`set_weights`] do only that. How long the frame lists
+//! and the record are, [`Plan`] says.
 //!
 //! Lists that are written are lent as `&mut`, so they cannot share a byte with
 //! another list of the call:
@@ -55,6 +55,7 @@
 #[allow(unsafe_code)]
 pub mod bytes;
 pub mod leaves;
+mod list;
 #[cfg(feature = "objective")]
 mod objective;
 mod plan;
@@ -62,6 +63,7 @@ mod refusal;
 mod tools;
 mod weights;
 
+pub use list::ObjectiveList;
 #[cfg(feature = "objective")]
 pub use objective::{Given, Record, RecordLists, Slopes, Walk, NONE_RAISED};
 pub use plan::Plan;

@@ -2,13 +2,13 @@
 
 use crate::bytes::{self, of_floats, of_floats_mut, of_u16s_mut};
 use crate::refusal::taken;
-use crate::{Pose, Refusal, Sheet, Tools};
+use crate::{ObjectiveList, Pose, Refusal, Sheet, Tools};
 
 /// In a record, the joint of the first walk.
 pub const NONE_RAISED: u16 = 65535;
 
-/// The sheet, 13 floats of goal a chain, a history of four blocks, weights and
-/// tools.
+/// The sheet, 13 floats of goal a chain, a history of four blocks, weights, tools,
+/// and the list of objectives.
 #[derive(Clone, Copy, Debug)]
 pub struct Given<'a> {
     pub sheet: Sheet<'a>,
@@ -17,6 +17,7 @@ pub struct Given<'a> {
     /// In the order of [`WEIGHTS`](crate::WEIGHTS); empty for the built-in ones.
     pub weights: &'a [f64],
     pub tools: Tools<'a>,
+    pub list: ObjectiveList,
 }
 
 /// The objective's value and its slope for each joint.
@@ -59,6 +60,7 @@ impl Given<'_> {
             history: of_floats(self.history),
             weights: of_floats(self.weights),
             tools: self.tools.map(of_floats),
+            strict: self.list.number(),
         }
     }
 

@@ -2,7 +2,7 @@
 
 use crate::bytes::{self, of_floats, of_u16s, of_u16s_mut};
 use crate::refusal::taken;
-use crate::{Refusal, Sheet, POSE_FLOATS};
+use crate::{ObjectiveList, Refusal, Sheet, POSE_FLOATS};
 
 /// The lengths of the frame lists and of the one-block gradient's record, and how
 /// many objectives there are. A list of the planned length is never refused as
@@ -13,7 +13,7 @@ pub struct Plan {
     pub positions: usize,
     /// Floats of its rotations.
     pub rotations: usize,
-    /// Objectives that are summed.
+    /// Objectives of the list that is picked.
     pub objectives: usize,
     /// Entries of the one-block gradient's record: u16s of its joints, and of
     /// its links.
@@ -22,13 +22,19 @@ pub struct Plan {
 
 impl Plan {
     /// From a sheet's sizes, codes and floats. Limits are not asked for.
-    pub fn of(sizes: &[u16], codes: &[u16], floats: &[f64]) -> Result<Self, Refusal> {
+    pub fn of(
+        sizes: &[u16],
+        codes: &[u16],
+        floats: &[f64],
+        list: ObjectiveList,
+    ) -> Result<Self, Refusal> {
         let mut numbers = [0; 4];
         taken(bytes::sizing(
             of_u16s(sizes),
             of_u16s(codes),
             of_floats(floats),
             of_u16s_mut(&mut numbers),
+            list.number(),
         ))?;
         let [positions, rotations, objectives, entries] = numbers.map(usize::from);
         Ok(Self {
@@ -46,14 +52,16 @@ impl Plan {
 }
 
 impl Sheet<'_> {
-    /// How long the lists have to be. The limits are not looked at.
-    pub fn plan(&self) -> Result<Plan, Refusal> {
-        Plan::of(self.sizes, self.codes, self.floats)
+    /// How long the lists have to be, and how many objectives this list has. The
+    /// limits are not looked at.
+    pub fn plan(&self, list: ObjectiveList) -> Result<Plan, Refusal> {
+        Plan::of(self.sizes, self.codes, self.floats, list)
     }
 
     /// The same for lists about to be lent: none for a sheet that is refused, as
     /// the call then answers the number, which may be a lower one.
     pub(crate) fn room(&self) -> Plan {
-        self.plan().unwrap_or_default()
+        // The lengths are the same for either list of objectives.
+        self.plan(ObjectiveList::Tolerance).unwrap_or_default()
     }
 }

@@ -3,7 +3,7 @@
 mod lists;
 
 use lists::chains;
-use relaxed_ik::{bytes, Refusal, Sheet, NO_TOOLS};
+use relaxed_ik::{bytes, ObjectiveList, Refusal, Sheet, NO_TOOLS};
 
 #[test]
 fn each_refusal_by_its_number() {
@@ -57,7 +57,9 @@ fn odd_sheets_are_refused_and_nothing_else_happens() {
     let long = chains(&[[13; 3000], [12; 3000]]);
     for sheet in [empty, long.sheet()] {
         assert_eq!(sheet.load(), Err(Refusal::Sizes));
-        assert_eq!(sheet.plan(), Err(Refusal::Sizes));
+        for list in [ObjectiveList::Tolerance, ObjectiveList::Strict] {
+            assert_eq!(sheet.plan(list), Err(Refusal::Sizes));
+        }
         assert_eq!(sheet.frames(&[]), Err(Refusal::Sizes));
         assert_eq!(sheet.poses(NO_TOOLS, &[]), Err(Refusal::Sizes));
         assert_eq!(sheet.manipulability(&[]), Err(Refusal::Sizes));

@@ -6,6 +6,8 @@ use lists::UP;
 use relaxed_ik::bytes::{self, of_floats, of_u16s, Sheet, Tools};
 
 const NO_TOOLS: Tools = [&[]; 4];
+/// Numbers that pick the strict list, among them some whose low bits are 0.
+const STRICT: [u32; 6] = [1, 2, 256, 65536, 1 << 31, u32::MAX];
 
 fn floats(numbers: &[f64]) -> Vec<u8> {
     of_floats(numbers).to_vec()
@@ -103,15 +105,20 @@ fn goals_are_13_floats_a_chain() {
 #[test]
 fn a_plan_is_four_u16s() {
     let lists = chain(&[0, 13, 12, 0]);
-    let ask = |plan: &mut [u8]| bytes::sizing(&lists.sizes, &lists.codes, &lists.floats, plan);
-    let mut plan = u16s(&[7; 5]);
-    assert_eq!(ask(&mut plan), 0);
-    assert_eq!(plan, u16s(&[15, 24, 12, 9, 7]), "the tail is kept");
-    // Too short, or long enough and no whole number of u16s.
-    for length in [0, 1, 6, 7, 9, 11] {
-        let mut plan = vec![7; length];
-        assert_eq!(ask(&mut plan), 9, "{length} bytes");
-        assert_eq!(plan, vec![7; length]);
+    let ask = |plan: &mut [u8], strict: u32| {
+        bytes::sizing(&lists.sizes, &lists.codes, &lists.floats, plan, strict)
+    };
+    for (strict, objectives) in [(0, 12)].into_iter().chain(STRICT.map(|n| (n, 8))) {
+        let mut plan = u16s(&[7; 5]);
+        assert_eq!(ask(&mut plan, strict), 0);
+        let expected = u16s(&[15, 24, objectives, 9, 7]);
+        assert_eq!(plan, expected, "the tail is kept");
+        // Too short, or long enough and no whole number of u16s.
+        for length in [0, 1, 6, 7, 9, 11] {
+            let mut plan = vec![7; length];
+            assert_eq!(ask(&mut plan, strict), 9, "{length} bytes");
+            assert_eq!(plan, vec![7; length]);
+        }
     }
 }
 
@@ -124,7 +131,7 @@ fn a_ragged_sheet_has_no_plan() {
         lists[at] = &lists[at][1..];
         for length in [8, 3] {
             let mut plan = vec![7; length];
-            let found = bytes::sizing(lists[0], lists[1], lists[2], &mut plan);
+            let found = bytes::sizing(lists[0], lists[1], lists[2], &mut plan, 1);
             assert_eq!(found, answer, "list {at}");
             assert_eq!(plan, vec![7; length]);
         }
@@ -192,7 +199,7 @@ fn only_an_empty_tool_is_none() {
 #[cfg(feature = "objective")]
 mod objective {
     use super::lists::{BUILT_IN, GOAL, UP};
-    use super::{chain, floats, u16s, Lists};
+    use super::{chain, floats, u16s, Lists, STRICT};
     use relaxed_ik::bytes::{gradient, gradient_finite_diff, gradient_one_block, objective};
     use relaxed_ik::bytes::{Given, Record};
 
@@ -204,6 +211,7 @@ mod objective {
         weights: Vec<u8>,
         tools: [Vec<u8>; 4],
         joints: Vec<u8>,
+        strict: u32,
     }
 
     fn aimed(codes: &[u16], joints: &[f64]) -> Aimed {
@@ -214,6 +222,7 @@ mod objective {
             weights: Vec::new(),
             tools: Default::default(),
             joints: floats(joints),
+            strict: 0,
         }
     }
 
@@ -225,15 +234,14 @@ mod objective {
                 history: &self.history,
                 weights: &self.weights,
                 tools: self.tools.each_ref().map(Vec::as_slice),
+                strict: self.strict,
             }
         }
     }
 
     /// The values agree, both gradients by 1e-7 agree, the scratch list ends
-    /// equal to the joints, tails are kept, and -0.0 stays what it is.
-    #[test]
-    fn the_calls_agree() {
-        let lists = aimed(&[13, 12, 0, 31], &[0.3, -0.0, 0.7]);
+    /// equal to the joints, tails are kept, and -0.0 stays what it is. The value.
+    fn agreed(lists: &Aimed) -> Vec<u8> {
         let given = lists.given();
         let mut single = floats(&[9.0, 9.0]);
         assert_eq!(objective(given, &lists.joints, &mut single), 0);
@@ -256,6 +264,20 @@ mod objective {
         };
         let answer = gradient_one_block(given, &lists.joints, &mut value, &mut slopes, record);
         assert_eq!((answer, &value, &slopes), (0, &single, &answers[0]));
+        value
+    }
+
+    #[test]
+    fn the_calls_agree() {
+        let mut lists = aimed(&[13, 12, 0, 31], &[0.3, -0.0, 0.7]);
+        let tolerance = agreed(&lists);
+        let strict = STRICT.map(|number| {
+            lists.strict = number;
+            agreed(&lists)
+        });
+        // Any number but 0 picks the same list, and another than 0 does.
+        assert!(strict.iter().all(|value| *value == strict[0]));
+        assert_ne!(strict[0], tolerance);
     }
 
     #[test]
@@ -283,10 +305,11 @@ mod objective {
         assert_eq!(poses[8 * 63..], floats(&[9.0]));
     }
 
-    /// 7 before 8 before 9 before 10 before 11, and nothing written.
-    #[test]
-    fn a_refused_call_writes_nothing() {
+    /// Of the list that this number picks: 7 before 8 before 9 before 10 before 11, and
+    /// nothing written.
+    fn refused(strict: u32) {
         let mut lists = aimed(&[13, 12], &[0.5, 0.5]);
+        lists.strict = strict;
         let good = lists.goals.clone();
         lists.goals.pop();
         lists.weights = floats(&[1000.5; 8]);
@@ -307,6 +330,11 @@ mod objective {
             assert_eq!((answer, value), (expected, floats(&[7.0])));
             lists.weights = floats(&[1000.0; 8]);
         }
+    }
+
+    #[test]
+    fn a_refused_call_writes_nothing() {
+        [0, 1, u32::MAX].into_iter().for_each(refused);
     }
 
     /// What each call on weights and tools answers, with room for all that it writes. Only a

@@ -4,7 +4,7 @@
 mod lists;
 
 use lists::{GOAL, UP};
-use relaxed_ik::{bytes, Given, RecordLists, Refusal, Sheet, NO_TOOLS};
+use relaxed_ik::{bytes, Given, ObjectiveList, RecordLists, Refusal, Sheet, NO_TOOLS};
 
 /// Links up 1, at rest at the joints, handed to `test`.
 fn with(codes: &[u16], joints: &[f64], test: impl FnOnce(Given)) {
@@ -20,6 +20,7 @@ fn with(codes: &[u16], joints: &[f64], test: impl FnOnce(Given)) {
         history: &joints.repeat(4),
         weights: &[],
         tools: NO_TOOLS,
+        list: ObjectiveList::Tolerance,
     });
 }
 
@@ -34,7 +35,7 @@ fn the_calls_agree() {
         assert_eq!([two.value, coarse.value, one.value], [value; 3]);
         assert_eq!(one, two);
         assert_eq!(one.slopes.len(), 3);
-        assert_eq!(record.len(), given.sheet.plan().unwrap().entries);
+        assert_eq!(record.len(), given.sheet.plan(given.list).unwrap().entries);
         let ends = given.sheet.poses(NO_TOOLS, &joints).unwrap();
         assert_eq!(record[3].pose, ends[0]);
     });
@@ -118,8 +119,9 @@ fn the_longest_record() {
         history: &[0.1; 64],
         weights: &[],
         tools: NO_TOOLS,
+        list: ObjectiveList::Tolerance,
     };
-    assert_eq!(sheet.plan().unwrap().entries, 296);
+    assert_eq!(sheet.plan(given.list).unwrap().entries, 296);
     let ask = |entries: usize| {
         let lists = RecordLists {
             joints: &mut vec![0; entries],

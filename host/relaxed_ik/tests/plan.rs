@@ -3,10 +3,11 @@
 mod lists;
 
 use lists::{chains, Lists};
+use relaxed_ik::ObjectiveList::{Strict, Tolerance};
 use relaxed_ik::{Plan, Refusal};
 
-/// Arms, and the numbers of their plans: among them the scope paper's, and the
-/// most objectives and the most entries that there can be.
+/// Arms, and the numbers of their plans by the tolerance list: among them the scope
+/// paper's, and the most objectives and the most entries that there can be.
 fn arms() -> Vec<(Lists, [usize; 4])> {
     let front = [[13; 4].to_vec(), vec![0; 12]].concat();
     vec![
@@ -28,19 +29,27 @@ fn the_numbers_of_a_plan() {
             objectives,
             entries,
         };
-        assert_eq!(lists.sheet().plan(), Ok(expected));
+        assert_eq!(lists.sheet().plan(Tolerance), Ok(expected));
         assert_eq!(expected.pose_floats(), 7 * entries);
+        // Two objectives of a goal in place of six.
+        let strict = Plan {
+            objectives: objectives - 4 * lists.sheet().chains(),
+            ..expected
+        };
+        assert_eq!(lists.sheet().plan(Strict), Ok(strict));
     }
 }
 
 #[test]
 fn limits_are_not_asked_for() {
     for (lists, _) in arms() {
-        let plan = lists.sheet().plan();
-        let without = Plan::of(&lists.sizes, &lists.codes, &lists.floats);
-        assert_eq!(without, plan);
         let wrong = lists.spoiled(|l| l.limits = vec![f64::NAN]);
-        assert_eq!(wrong.sheet().plan(), plan);
+        for list in [Tolerance, Strict] {
+            let plan = lists.sheet().plan(list);
+            let without = Plan::of(&lists.sizes, &lists.codes, &lists.floats, list);
+            assert_eq!(without, plan);
+            assert_eq!(wrong.sheet().plan(list), plan);
+        }
         assert_eq!(wrong.sheet().load(), Err(Refusal::Limits));
     }
 }
@@ -49,14 +58,15 @@ fn limits_are_not_asked_for() {
 fn each_refusal_by_its_number() {
     let good = chains(&[vec![13, 12, 0], vec![31, 22]]);
     for (refusal, lists) in good.faults() {
-        assert_eq!(lists.sheet().plan(), Err(refusal));
+        assert_eq!(lists.sheet().plan(Tolerance), Err(refusal));
+        assert_eq!(lists.sheet().plan(Strict), Err(refusal));
         assert_eq!(lists.sheet().load(), Err(refusal), "as at loading");
     }
     let both = good.spoiled(|l| {
         l.floats[0] = 11.0;
         l.codes[0] = 99;
     });
-    assert_eq!(both.sheet().plan(), Err(Refusal::Code), "the lowest");
+    assert_eq!(both.sheet().plan(Strict), Err(Refusal::Code), "the lowest");
 }
 
 /// The lists are reserved by the plan, which knows nothing of limits; the number
@@ -68,7 +78,7 @@ fn a_lower_number_than_the_plans_is_answered() {
         l.floats[0] = 11.0;
         l.limits[0] = 200.0;
     });
-    assert_eq!(wrong.sheet().plan(), Err(Refusal::Link));
+    assert_eq!(wrong.sheet().plan(Tolerance), Err(Refusal::Link));
     assert_eq!(wrong.sheet().frames(&[0.0; 2]), Err(Refusal::Limits));
 }
 
@@ -76,7 +86,7 @@ fn a_lower_number_than_the_plans_is_answered() {
 fn frames_take_what_is_planned_and_no_less() {
     for (lists, _) in arms() {
         let sheet = lists.sheet();
-        let (plan, joints) = (sheet.plan().unwrap(), vec![0.1; sheet.joints()]);
+        let (plan, joints) = (sheet.plan(Tolerance).unwrap(), vec![0.1; sheet.joints()]);
         let ask = |positions: usize, rotations: usize| {
             let (mut points, mut turns) = (vec![5.0; positions], vec![5.0; rotations]);
             let answer = sheet.frames_into(&joints, &mut points, &mut turns);
@@ -92,18 +102,21 @@ fn frames_take_what_is_planned_and_no_less() {
 }
 
 #[cfg(feature = "objective")]
-#[test]
-fn the_record_takes_what_is_planned_and_no_less() {
-    use relaxed_ik::{Given, RecordLists, NO_TOOLS};
-    for (lists, _) in arms() {
+mod objective {
+    use super::lists::{Lists, GOAL};
+    use super::{arms, Strict, Tolerance};
+    use relaxed_ik::{Given, ObjectiveList, RecordLists, Refusal, NO_TOOLS};
+
+    fn record_is_planned(lists: &Lists, list: ObjectiveList) {
         let sheet = lists.sheet();
-        let (plan, joints) = (sheet.plan().unwrap(), vec![0.1; sheet.joints()]);
+        let (plan, joints) = (sheet.plan(list).unwrap(), vec![0.1; sheet.joints()]);
         let given = Given {
             sheet,
-            goals: &lists::GOAL.repeat(sheet.chains()),
+            goals: &GOAL.repeat(sheet.chains()),
             history: &joints.repeat(4),
             weights: &[],
             tools: NO_TOOLS,
+            list,
         };
         let ask = |less: [usize; 3]| {
             let record = RecordLists {
@@ -121,5 +134,13 @@ fn the_record_takes_what_is_planned_and_no_less() {
         }
         let (_, record) = given.gradient_one_block(&joints).unwrap();
         assert_eq!(record.len(), plan.entries);
+    }
+
+    #[test]
+    fn the_record_takes_what_is_planned_and_no_less() {
+        for (lists, _) in arms() {
+            record_is_planned(&lists, Tolerance);
+            record_is_planned(&lists, Strict);
+        }
     }
 }

@@ -161,13 +161,23 @@ fn a_displacement_is_rotated_and_an_offset_without_axis_skipped() {
 mod objective {
     use super::lists::{Lists, BUILT_IN, GOAL};
     use super::{arms, lengthened, on, tools, with, JOINTS, TOOL};
+    use relaxed_ik::ObjectiveList::{self, Strict, Tolerance};
     use relaxed_ik::{Given, Record, Refusal, Slopes, Tools, NO_TOOLS};
 
     type Answers = [Result<Slopes, Refusal>; 4];
 
+    fn asked(lists: &Lists, weights: &[f64], tools: Tools) -> (Answers, Record) {
+        asked_by(Tolerance, lists, weights, tools)
+    }
+
     /// What all four calls answer of the arms in motion, the objective without
     /// slopes, and the record.
-    fn asked(lists: &Lists, weights: &[f64], tools: Tools) -> (Answers, Record) {
+    fn asked_by(
+        list: ObjectiveList,
+        lists: &Lists,
+        weights: &[f64],
+        tools: Tools,
+    ) -> (Answers, Record) {
         let blocks = [0.0, 0.01, 0.03, 0.04].map(|by| JOINTS.map(|v| v - by));
         let given = Given {
             sheet: lists.sheet(),
@@ -175,6 +185,7 @@ mod objective {
             history: &blocks.concat(),
             weights,
             tools,
+            list,
         };
         let alone = |value| Slopes {
             value,
@@ -194,20 +205,25 @@ mod objective {
     }
 
     /// Value and slopes of all four calls, to the bit, and one block as two.
-    #[test]
-    fn the_losses_go_by_the_tip() {
+    fn losses_go_by_the_tip(list: ObjectiveList) {
         let lists = arms();
-        let (without, flange) = asked(&lists, &[], NO_TOOLS);
+        let (without, flange) = asked_by(list, &lists, &[], NO_TOOLS);
         for (chain, tool) in (0..2).flat_map(|chain| tools().into_iter().map(move |t| (chain, t))) {
-            let (found, record) = asked(&lists, &[], on(chain, &tool));
-            let (expected, _) = asked(&lengthened(chain, &tool), &[], NO_TOOLS);
+            let (found, record) = asked_by(list, &lists, &[], on(chain, &tool));
+            let (expected, _) = asked_by(list, &lengthened(chain, &tool), &[], NO_TOOLS);
             assert_eq!(found, expected, "{tool:?}");
             assert_eq!(found[1], found[3]);
             // No tool is walked.
             assert_eq!(record, flange);
         }
-        assert_ne!(asked(&lists, &[], on(0, &TOOL)).0, without);
-        assert_ne!(asked(&lists, &[], on(1, &TOOL)).0, without);
+        assert_ne!(asked_by(list, &lists, &[], on(0, &TOOL)).0, without);
+        assert_ne!(asked_by(list, &lists, &[], on(1, &TOOL)).0, without);
+    }
+
+    #[test]
+    fn the_losses_go_by_the_tip() {
+        losses_go_by_the_tip(Tolerance);
+        losses_go_by_the_tip(Strict);
     }
 
     /// Without position and rotation a tool changes no bit.

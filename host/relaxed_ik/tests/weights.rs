@@ -44,7 +44,7 @@ fn weights_are_eight() {
 mod objective {
     use super::lists::{chains, Lists, BUILT_IN, GOAL};
     use super::{outside, with};
-    use relaxed_ik::{set_weights, Given, Refusal, Slopes, NO_TOOLS};
+    use relaxed_ik::{set_weights, Given, ObjectiveList, Refusal, Slopes, NO_TOOLS};
 
     /// Two arms, of seven joints and of three, bent so that every objective counts.
     fn arms() -> Lists {
@@ -64,6 +64,7 @@ mod objective {
             history: &blocks.concat(),
             weights,
             tools: NO_TOOLS,
+            list: ObjectiveList::Tolerance,
         })
     }
 

@@ -1,6 +1,8 @@
 //! What the library answers where a length, a part or a row names nothing: a
 //! NaN.
-use relaxed_ik::leaves::{determinant, gram, quat_product_part, scaled_axis_part};
+use relaxed_ik::bytes::{from_quaternion, quaternion_log};
+use relaxed_ik::leaves::{determinant, gram};
+use relaxed_ik::leaves::{quat_product_part, quaternion_disp_part, scaled_axis_part};
 
 fn bytes(n: usize) -> Vec<u8> {
     1.0f64
@@ -36,8 +38,11 @@ fn a_part_past_the_last_is_a_nan() {
     let q = [1.0, 2.0, 3.0, 4.0];
     for part in [4, 5, u32::MAX] {
         assert!(quat_product_part(q, q, part).is_nan());
+        assert!(from_quaternion(1.0, 2.0, 3.0, 4.0, part).is_nan());
     }
     for part in [3, 4, u32::MAX] {
         assert!(scaled_axis_part(q, part).is_nan());
+        assert!(quaternion_log(0.5, 0.5, 0.5, 0.5, part).is_nan());
+        assert!(quaternion_disp_part(q, q, part).is_nan());
     }
 }

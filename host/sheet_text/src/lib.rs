@@ -97,6 +97,12 @@ impl Text {
         self.line(&format!("{word} {}", row(numbers)));
     }
 
+    /// Picks the strict list of objectives; a sheet without this line has the
+    /// tolerance list.
+    pub fn strict_goals(&mut self) {
+        self.line("goals strict");
+    }
+
     /// A figure to the bit.
     pub fn filed(&mut self, name: &str, v: f64) {
         let _ = writeln!(self.text, "filed {name} {} {:016x}", number(v), v.to_bits());
@@ -157,6 +163,7 @@ mod tests {
         text.limits(&[-999.0, 999.0]);
         text.limits(&[-999.0, 999.0, f64::NAN]);
         text.numbers("joints", &[]);
+        text.strict_goals();
         text.filed("arm.x", -0.5);
         let expected = "\
 # two
@@ -171,6 +178,7 @@ tool
 limits free
 limits -999 999 0x7ff8000000000000
 joints
+goals strict
 filed arm.x -0.5 bfe0000000000000
 ";
         assert_eq!(text.finish(), expected);

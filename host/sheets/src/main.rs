@@ -6,8 +6,8 @@
 
 mod samples;
 
-use reference::groove::objective_master::ObjectiveMaster;
 use reference::spacetime::robot::Robot;
+use reference::strict::Pick;
 use reference::tools::{self, Tools};
 use reference::{record, refusals, sheet, weights};
 use samples::{Arms, Chain, Sample};
@@ -135,6 +135,7 @@ fn good(sample: &Sample) -> String {
     for goal in goals.chunks_exact(13) {
         text.numbers("goal", goal);
     }
+    goals_line(&mut text, sample.pick);
     if let Some(weights) = &sample.weights {
         text.numbers("weights", weights);
     }
@@ -145,6 +146,13 @@ fn good(sample: &Sample) -> String {
     text.finish()
 }
 
+/// The tolerance list needs no line.
+fn goals_line(text: &mut Text, pick: Pick) {
+    if pick == Pick::Strict {
+        text.strict_goals();
+    }
+}
+
 /// Arms without limits or joints. The first line says what `sonde --sizes` is to
 /// print: the lengths of the reference run's own lists.
 fn arms(sample: &Arms) -> String {
@@ -152,7 +160,7 @@ fn arms(sample: &Arms) -> String {
     let robot = lists.robot();
     let joints = vec![0.0; robot.num_dofs];
     let (positions, rotations) = sheet::frames(&robot, &joints);
-    let objectives = ObjectiveMaster::relaxed_ik(&robot.chain_lengths).objectives;
+    let objectives = sample.pick.master(&robot.chain_lengths).objectives;
     let entries = record::record(&robot, &joints).links;
     let mut text = Text::default();
     text.comment(&format!(
@@ -169,6 +177,7 @@ fn arms(sample: &Arms) -> String {
         let links = chain.links.iter();
         links.for_each(|link| text.link(link.code, &link.floats));
     }
+    goals_line(&mut text, sample.pick);
     text.finish()
 }
 
@@ -200,8 +209,8 @@ fn file(text: &mut Text, sample: &Sample, lists: &Lists, goals: &[f64], history:
         robot.get_manipulability_immutable(&sample.joints),
     );
     if !goals.is_empty() {
-        let master = weights::master(&robot.chain_lengths, sample.own_weights());
-        let master = tools::with_tools(master, &tools);
+        let master = weights::master(sample.pick, &robot.chain_lengths, sample.own_weights());
+        let master = tools::with_tools(sample.pick, master, &tools);
         let vars = sheet::lent(robot, goals, history);
         let (value, slopes) = master.gradient(&sample.joints, &vars);
         text.filed("objective", value);

@@ -1,5 +1,7 @@
 //! The sample arms, and the ways in which the bad sheets are bad.
 
+use reference::strict::Pick;
+
 pub struct Link {
     pub code: u16,
     pub floats: [f64; 7],
@@ -38,6 +40,7 @@ pub struct Sample {
     pub goal: Option<(Vec<f64>, [f64; 6])>,
     /// None for the built-in ones.
     pub weights: Option<[f64; 8]>,
+    pub pick: Pick,
     pub filed: bool,
 }
 
@@ -81,6 +84,13 @@ fn rig() -> Vec<Chain> {
 fn rig_with_sonde() -> Vec<Chain> {
     let mut chains = rig();
     chains[0].tool = Some([0.04, 0.0, 1.1, 0.96, 0.0, 0.28, 0.0]);
+    chains
+}
+
+/// Both arms, with a sonde on the second.
+fn two_arms_with_sonde() -> Vec<Chain> {
+    let mut chains = two_arms();
+    chains[1].tool = Some([0.0, 0.1, 0.6, 0.8, 0.0, 0.0, 0.6]);
     chains
 }
 
@@ -150,6 +160,7 @@ pub fn good() -> Vec<Sample> {
             history: None,
             goal: Some((beside(&rig_joints, 0.001), [0.0, 0.0, 0.05, 0.1, 0.1, 3.2])),
             weights: None,
+            pick: Pick::Tolerance,
             filed: true,
         },
         Sample {
@@ -162,6 +173,7 @@ pub fn good() -> Vec<Sample> {
             history: Some([-0.01, -0.02, -0.04, -0.05].map(|by| beside(&slid, by))),
             goal: Some((beside(&slid, 0.004), [0.1, 0.2, 0.0, 0.0, 0.5, 3.2])),
             weights: None,
+            pick: Pick::Tolerance,
             filed: true,
         },
         Sample {
@@ -173,6 +185,7 @@ pub fn good() -> Vec<Sample> {
             history: None,
             goal: Some((beside(&both, -0.05), [0.3, 0.1, 0.2, 0.1, 0.1, 0.1])),
             weights: None,
+            pick: Pick::Tolerance,
             filed: true,
         },
         Sample {
@@ -184,6 +197,7 @@ pub fn good() -> Vec<Sample> {
             history: None,
             goal: Some((beside(&many, 0.04), [0.0; 6])),
             weights: None,
+            pick: Pick::Tolerance,
             filed: true,
         },
         Sample {
@@ -200,6 +214,7 @@ pub fn good() -> Vec<Sample> {
             history: None,
             goal: None,
             weights: None,
+            pick: Pick::Tolerance,
             filed: true,
         },
         Sample {
@@ -211,6 +226,7 @@ pub fn good() -> Vec<Sample> {
             history: None,
             goal: Some((beside(&rig_joints, 0.25), [0.0, 0.0, 0.05, 0.1, 0.1, 3.2])),
             weights: None,
+            pick: Pick::Tolerance,
             filed: false,
         },
         Sample {
@@ -222,6 +238,7 @@ pub fn good() -> Vec<Sample> {
             history: Some([-0.01, -0.02, -0.04, -0.05].map(|by| beside(&rig_joints, by))),
             goal: Some((beside(&rig_joints, 0.002), [0.0, 0.0, 0.05, 0.1, 0.1, 3.2])),
             weights: Some([20.0, 60.0, 0.1, 0.7, 0.5, 0.3, 2.0, 0.25]),
+            pick: Pick::Tolerance,
             filed: true,
         },
         Sample {
@@ -233,6 +250,31 @@ pub fn good() -> Vec<Sample> {
             history: Some([-0.01, -0.02, -0.04, -0.05].map(|by| beside(&rig_joints, by))),
             goal: Some((beside(&rig_joints, 0.002), [0.0, 0.0, 0.05, 0.1, 0.1, 3.2])),
             weights: None,
+            pick: Pick::Tolerance,
+            filed: true,
+        },
+        Sample {
+            file: "surveyed_collar",
+            about: "A surveyed collar: the goal is strict, and its tolerances count for nothing.",
+            hole: "Collar 30, surveyed",
+            chains: rig(),
+            joints: rig_joints.clone(),
+            history: Some([-0.01, -0.02, -0.04, -0.05].map(|by| beside(&rig_joints, by))),
+            goal: Some((beside(&rig_joints, 0.002), [0.0, 0.0, 0.05, 0.1, 0.1, 3.2])),
+            weights: None,
+            pick: Pick::Strict,
+            filed: true,
+        },
+        Sample {
+            file: "surveyed_pair",
+            about: "Two arms with strict goals, the crew's own weights, and a sonde on the second.",
+            hole: "Collars 31 and 32, surveyed",
+            chains: two_arms_with_sonde(),
+            joints: both.clone(),
+            history: None,
+            goal: Some((beside(&both, -0.05), [0.3, 0.1, 0.2, 0.1, 0.1, 0.1])),
+            weights: Some([20.0, 60.0, 0.1, 0.7, 0.5, 0.3, 2.0, 0.25]),
+            pick: Pick::Strict,
             filed: true,
         },
     ]
@@ -243,14 +285,28 @@ pub struct Arms {
     pub file: &'static str,
     pub hole: &'static str,
     pub chains: Vec<Chain>,
+    pub pick: Pick,
 }
 
 pub fn arms() -> Vec<Arms> {
-    let named = |file, hole, chains| Arms { file, hole, chains };
+    let named = |file, hole, chains, pick| Arms {
+        file,
+        hole,
+        chains,
+        pick,
+    };
+    let (tolerance, strict) = (Pick::Tolerance, Pick::Strict);
     vec![
-        named("boom", "Rig north, its boom", rig()),
-        named("two_arms", "Rig south, both arms", two_arms()),
-        named("largest", "Test stand, four arms", largest()),
+        named("boom", "Rig north, its boom", rig(), tolerance),
+        named("two_arms", "Rig south, both arms", two_arms(), tolerance),
+        named("largest", "Test stand, four arms", largest(), tolerance),
+        named("boom_strict", "Rig north, its boom", rig(), strict),
+        named(
+            "two_arms_strict",
+            "Rig south, both arms",
+            two_arms(),
+            strict,
+        ),
     ]
 }
 
@@ -407,6 +463,13 @@ pub fn bad() -> Vec<Bad> {
             "joints nan",
         ),
         words("refused_8_tolerance", 18, "goal", " 3.2", " 320"),
+        words(
+            "refused_8_strict_tolerance",
+            18,
+            "goal",
+            " 3.2",
+            " 320\ngoals strict",
+        ),
         before(
             "refused_10_nine_weights",
             20,
@@ -442,6 +505,9 @@ pub fn bad() -> Vec<Bad> {
             3,
             "weights 20, 60, 0.1, 0.7, 0.5, 0.3, 2, 0.25",
         ),
+        before("text_goals_loose", 3, "goals loose"),
+        before("text_goals_of_no_list", 3, "goals"),
+        words("text_goals_for_goal", 3, "goal", "goal", "goals"),
         words("text_not_a_number", 3, "limits -1.2 1.4", "-1.2", "-1,2"),
         words("text_unknown_word", 3, "joints", "joints", "angles"),
         words(

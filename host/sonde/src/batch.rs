@@ -1,6 +1,6 @@
 //! A folder of sheets: a progress line while it runs, a table after it.
 
-use crate::report::{object, weights_from, Outcome};
+use crate::report::{goals_by, object, weights_from, Outcome};
 use std::io::{IsTerminal, Write as _};
 use std::path::Path;
 use std::{fs, io};
@@ -67,15 +67,39 @@ fn tools(outcome: &Outcome) -> Option<String> {
     (count > 0).then(|| format!("{count}/{}", work.chains.len()))
 }
 
-/// The column of tools is there if any sheet has one.
-fn column(with_tools: bool, text: &str) -> String {
-    match with_tools {
-        true => format!(" {text:>6}"),
-        false => String::new(),
-    }
+/// By which list the goals were counted, if the sheet says.
+fn goals(outcome: &Outcome) -> Option<String> {
+    let (file, work) = outcome.result.as_ref().ok()?;
+    goals_by(file, work).map(str::to_string)
 }
 
-fn row(outcome: &Outcome, width: usize, with_tools: bool) -> String {
+/// A column that is there if any sheet has something for it.
+struct Column {
+    name: &'static str,
+    width: usize,
+    of: fn(&Outcome) -> Option<String>,
+}
+
+const OPTIONAL: [Column; 2] = [
+    Column {
+        name: "tools",
+        width: 6,
+        of: tools,
+    },
+    Column {
+        name: "goals",
+        width: 9,
+        of: goals,
+    },
+];
+
+/// What stands in these columns, one after the other.
+fn across(columns: &[Column], text: impl Fn(&Column) -> String) -> String {
+    let cell = |column: &Column| format!(" {:>width$}", text(column), width = column.width);
+    columns.iter().map(cell).collect()
+}
+
+fn row(outcome: &Outcome, width: usize, columns: &[Column]) -> String {
     let name = Path::new(&outcome.path).file_name();
     let name = name.map_or(outcome.path.clone(), |name| {
         name.to_string_lossy().into_owned()
@@ -96,9 +120,9 @@ fn row(outcome: &Outcome, width: usize, with_tools: bool) -> String {
             filed = format!("{agree}/{}", work.checks.len());
         }
     }
-    let tools = column(with_tools, &tools(outcome).unwrap_or_default());
+    let own = across(columns, |column| (column.of)(outcome).unwrap_or_default());
     let text = format!(
-        "{name:<width$} {:<14} {azimuth:>8} {inclination:>11} {weights:>8}{tools} {filed:>7}  {}",
+        "{name:<width$} {:<14} {azimuth:>8} {inclination:>11} {weights:>8}{own} {filed:>7}  {}",
         outcome.word(),
         outcome.note()
     );
@@ -106,7 +130,7 @@ fn row(outcome: &Outcome, width: usize, with_tools: bool) -> String {
 }
 
 /// A row a sheet, then the counts. Azimuth and inclination are the first
-/// chain's; of tools, how many chains have one.
+/// chain's; of tools, how many chains have one; of goals, by which list they count.
 pub fn table(outcomes: &[Outcome]) -> String {
     let file = |outcome: &Outcome| {
         Path::new(&outcome.path)
@@ -114,17 +138,14 @@ pub fn table(outcomes: &[Outcome]) -> String {
             .map_or(0, |name| name.len())
     };
     let width = outcomes.iter().map(file).max().unwrap_or(0).max(5);
-    let with_tools = outcomes.iter().any(|outcome| tools(outcome).is_some());
-    let tools = column(with_tools, "tools");
+    let mut columns = Vec::from(OPTIONAL);
+    columns.retain(|column| outcomes.iter().any(|one| (column.of)(one).is_some()));
+    let names = across(&columns, |column| column.name.to_string());
     let mut lines = vec![format!(
-        "{:<width$} {:<14} {:>8} {:>11} {:>8}{tools} {:>7}  note",
+        "{:<width$} {:<14} {:>8} {:>11} {:>8}{names} {:>7}  note",
         "sheet", "outcome", "azimuth", "inclination", "weights", "filed"
     )];
-    lines.extend(
-        outcomes
-            .iter()
-            .map(|outcome| row(outcome, width, with_tools)),
-    );
+    lines.extend(outcomes.iter().map(|outcome| row(outcome, width, &columns)));
     let counts = WORDS
         .iter()
         .map(|(word, several)| (count(outcomes, word), several));

@@ -28,8 +28,9 @@ sonde --version
   --svg FILE   draws the arm and its goals into FILE
   --batch DIR  every *.sheet of a folder, and a table of them
   --sizes      how long the lists are that a program reserves for the arms of
-               SHEET; limits, joints, goals, weights and tools are read and not
-               judged
+               SHEET, and how many objectives there are by its goals line, if
+               it has one; limits, joints, each goal, weights and tools are
+               read and not judged
   --version    the program's version, and the proved library it is linked with
 
 exit status: 0 worked out, and every filed figure agrees (with --sizes: planned);
@@ -273,6 +274,9 @@ mod tests {
             "1000.5",
             "tool",
             "tool 0 0 0.5 1 0 0 0",
+            "goals",
+            "goals strict",
+            "strict",
         ];
         let mut met = std::collections::BTreeMap::new();
         for _ in 0..4000 {

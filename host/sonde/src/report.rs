@@ -222,6 +222,12 @@ pub fn weights_from(file: &File, work: &Work) -> Option<&'static str> {
     })
 }
 
+/// By which list the goals were counted, if the sheet says; of no objective, by none.
+pub fn goals_by(file: &File, work: &Work) -> Option<&'static str> {
+    work.objective.as_ref()?;
+    file.list_word()
+}
+
 /// The sheet's weights by name; of the built-in ones none, which are the library's.
 fn named_weights(file: &File) -> impl Iterator<Item = (&'static str, f64)> + '_ {
     let numbers = file.weights.iter().flat_map(|row| &row.numbers);
@@ -246,6 +252,9 @@ fn objective_text(file: &File, work: &Work) -> String {
     line(&mut out, "objective", objective.value);
     for (joint, slope) in objective.slopes.iter().enumerate() {
         line(&mut out, &format!("slope {joint}"), *slope);
+    }
+    if let Some(word) = goals_by(file, work) {
+        let _ = writeln!(out, "  {:<16} {word}", "goals");
     }
     let _ = writeln!(out, "  {:<16} {from}", "weights");
     for (name, v) in named_weights(file) {
@@ -397,7 +406,7 @@ fn work_json(file: &File, work: &Work) -> Vec<(&'static str, String)> {
             ("came_out", optional(came)),
         ])
     };
-    vec![
+    let mut fields = vec![
         ("hole", string(&file.hole)),
         ("chains", array(work.chains.iter().map(chain))),
         ("manipulability", float(work.manipulability)),
@@ -406,9 +415,12 @@ fn work_json(file: &File, work: &Work) -> Vec<(&'static str, String)> {
             optional(work.objective.as_ref().map(|found| float(found.value))),
         ),
         ("slopes", optional(slopes)),
-        ("weights", optional(weights_json(file, work))),
-        ("filed", array(work.checks.iter().map(check))),
-    ]
+    ];
+    // As with tools: a sheet that picks no list is told as ever.
+    fields.extend(goals_by(file, work).map(|word| ("goals", string(word))));
+    fields.push(("weights", optional(weights_json(file, work))));
+    fields.push(("filed", array(work.checks.iter().map(check))));
+    fields
 }
 
 fn weights_json(file: &File, work: &Work) -> Option<String> {

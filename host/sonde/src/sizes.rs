@@ -32,6 +32,9 @@ impl Planned {
             let _ = writeln!(out, "  {name:<16} {count:>5} {kind:<6} {bytes:>6} bytes");
         }
         let _ = writeln!(out, "\n  {:<16} {:>5}", "objectives", plan.objectives);
+        if let Some(word) = file.list_word() {
+            let _ = writeln!(out, "  {:<16} {word}", "goals");
+        }
         out.push_str(
             "\nA list of this length is never refused as too short; one with an element fewer is,\n\
              where nothing else is wrong.\n",
@@ -52,6 +55,7 @@ impl Planned {
         ];
         let mut fields = head_json(&self.path, "planned", GOOD, None);
         fields.push(("hole", string(&file.hole)));
+        fields.extend(file.list_word().map(|word| ("goals", string(word))));
         fields.push(("plan", object(&numbers)));
         object(&fields)
     }

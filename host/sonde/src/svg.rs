@@ -1,7 +1,7 @@
 //! The arm from above and from the side, with its goals. Both views have one
 //! scale, so lengths can be compared.
 
-use crate::work::{ChainWork, Work};
+use crate::work::{ChainWork, Goal, Work};
 use std::fmt::Write as _;
 
 const WIDTH: f64 = 1040.0;
@@ -216,16 +216,11 @@ fn grid(out: &mut String, view: &View) {
 
 /// The goal's position with its position tolerances, where they are wide
 /// enough to be more than a point.
-fn goal(out: &mut String, view: &View, goal: &[f64], colour: &str) {
-    let at = [goal[0], goal[1], goal[2]];
-    let place = view.place(at);
-    let wide = [0, 1, 2].map(|axis| {
-        if goal[7 + axis] > 0.01 {
-            goal[7 + axis]
-        } else {
-            0.0
-        }
-    });
+fn goal(out: &mut String, view: &View, goal: &Goal, colour: &str) {
+    let place = view.place(goal.position);
+    let wide = goal
+        .tolerances
+        .map(|wide| if wide > 0.01 { wide } else { 0.0 });
     let reach = |along: [f64; 3]| {
         [0, 1, 2]
             .map(|k| (wide[k] * along[k]).abs())
@@ -480,8 +475,8 @@ pub fn draw(hole: &str, work: &Work) -> String {
         if let Some(goal) = &chain.goal {
             // With its tolerances, as far as they are not out of all proportion.
             for sign in [-1.0, 1.0] {
-                let wide = [0, 1, 2].map(|k| sign * goal[7 + k].clamp(0.0, 2.0));
-                points.push([goal[0] + wide[0], goal[1] + wide[1], goal[2] + wide[2]]);
+                let wide = goal.tolerances.map(|wide| sign * wide.clamp(0.0, 2.0));
+                points.push([0, 1, 2].map(|k| goal.position[k] + wide[k]));
             }
         }
     }
@@ -545,8 +540,8 @@ pub fn draw(hole: &str, work: &Work) -> String {
             }
         }
         for (own, colour) in work.chains.iter().zip(COLOURS) {
-            if let Some(floats) = &own.goal {
-                goal(&mut body, view, floats, colour);
+            if let Some(own_goal) = &own.goal {
+                goal(&mut body, view, own_goal, colour);
             }
             axis(&mut body, view, own, at == 0);
         }

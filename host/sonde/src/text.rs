@@ -2,7 +2,7 @@
 //! possible is judged here: lists of any length and numbers of any size go on
 //! to the library, which refuses by number what it does not take.
 
-use relaxed_ik::{Sheet, Tools};
+use relaxed_ik::{ObjectiveList, Sheet, Tools};
 use std::fmt;
 
 /// A file larger than this is no sheet.
@@ -10,6 +10,11 @@ pub const MOST_BYTES: usize = 1 << 20;
 
 const KINDS: [&str; 4] = ["fixed", "revolute", "continuous", "prismatic"];
 const AXES: [&str; 7] = ["none", "x", "y", "z", "-x", "-y", "-z"];
+/// The lists of objectives by the words of a `goals` line.
+const GOALS: [(&str, ObjectiveList); 2] = [
+    ("tolerance", ObjectiveList::Tolerance),
+    ("strict", ObjectiveList::Strict),
+];
 /// The parts of an end pose, in the library's order.
 pub const PARTS: [&str; 7] = ["x", "y", "z", "w", "i", "j", "k"];
 
@@ -108,6 +113,8 @@ pub struct File {
     pub goals: Vec<Row>,
     /// None for the built-in ones.
     pub weights: Option<Row>,
+    /// None where the sheet picks none, and the tolerance list serves.
+    pub list: Option<ObjectiveList>,
     pub filed: Vec<Filed>,
 }
 
@@ -124,6 +131,7 @@ pub struct Lists {
     pub weights: Vec<f64>,
     /// One a chain, empty for none.
     pub tools: Vec<Vec<f64>>,
+    pub list: ObjectiveList,
 }
 
 impl Lists {
@@ -154,13 +162,20 @@ impl File {
         self.chains.iter().flat_map(numbered)
     }
 
-    /// The sheet with its arms and nothing else.
+    /// The sheet with its arms, by which list their goals count, and nothing else.
     pub fn arms(&self) -> Self {
         Self {
             hole: self.hole.clone(),
             chains: self.chains.clone(),
+            list: self.list,
             ..Self::default()
         }
+    }
+
+    /// The word of the sheet's `goals` line.
+    pub fn list_word(&self) -> Option<&'static str> {
+        let mut known = GOALS.into_iter();
+        known.find_map(|(word, list)| (Some(list) == self.list).then_some(word))
     }
 
     pub fn lists(&self) -> Lists {
@@ -185,6 +200,7 @@ impl File {
                 .iter()
                 .map(|chain| all(chain.tool.as_slice()))
                 .collect(),
+            list: self.list.unwrap_or_default(),
         }
     }
 
@@ -293,6 +309,21 @@ fn limits(line: usize, words: &[&str]) -> Read<Row> {
         }),
         _ => row(line, words),
     }
+}
+
+/// Which list of objectives is picked.
+fn list(line: usize, words: &[&str]) -> Read<ObjectiveList> {
+    let found = match words {
+        [] => "nothing".to_string(),
+        [word] => word.to_string(),
+        [word, ..] => format!("{word} and more"),
+    };
+    if let Some((_, list)) = GOALS.into_iter().find(|(word, _)| *word == found) {
+        return Ok(list);
+    }
+    let known = GOALS.map(|(word, _)| word).join(", ");
+    let words = format!("no list of goals: {found} ({known}; a chain's own goal begins with goal)");
+    fault(line, words)
 }
 
 /// A chain's name is one word of letters, digits, - and _.
@@ -453,6 +484,8 @@ pub fn parse(bytes: &[u8]) -> Read<File> {
             "goal" => file.goals.push(row(line, rest)?),
             "weights" if file.weights.is_some() => return fault(line, "a second line of weights"),
             "weights" => file.weights = Some(row(line, rest)?),
+            "goals" if file.list.is_some() => return fault(line, "a second goals line"),
+            "goals" => file.list = Some(list(line, rest)?),
             "filed" => {
                 let filed = filed(line, rest, &file.chains)?;
                 if file.filed.iter().any(|other| other.key == filed.key) {
@@ -533,6 +566,28 @@ filed slope.1 -0 8000000000000000
         assert_eq!(file.lists().tools(), [&[][..], &tool, &[], &[]]);
     }
 
+    /// Without a goals line it is the tolerance list, which may be named as well.
+    #[test]
+    fn a_list_of_objectives_is_picked() {
+        for (line, word, list) in [
+            ("", None, ObjectiveList::Tolerance),
+            (
+                "goals tolerance",
+                Some("tolerance"),
+                ObjectiveList::Tolerance,
+            ),
+            (
+                "goals  strict # surveyed",
+                Some("strict"),
+                ObjectiveList::Strict,
+            ),
+        ] {
+            let file = parse(format!("{GOOD}{line}\n").as_bytes()).unwrap();
+            assert_eq!((file.list_word(), file.lists().list), (word, list));
+            assert_eq!(file.arms().lists().list, list);
+        }
+    }
+
     /// Line ends of either kind, and a byte order mark.
     #[test]
     fn other_line_ends_are_read() {
@@ -568,6 +623,26 @@ filed slope.1 -0 8000000000000000
                 "tool 0\nchain mast",
                 4,
                 "a tool before the first chain",
+            ),
+            (
+                "weights",
+                "goals loose\nweights",
+                12,
+                "no list of goals: loose (tolerance, strict;",
+            ),
+            ("weights", "goals\nweights", 12, "no list of goals: nothing"),
+            ("goal 0 0", "goals 0 0", 11, "own goal begins with goal"),
+            (
+                "weights",
+                "goals strict strict\nweights",
+                12,
+                "no list of goals: strict and more",
+            ),
+            (
+                "weights",
+                "goals strict\ngoals tolerance\nweights",
+                13,
+                "a second goals line",
             ),
             ("mast.x", "mast.v", 13, "no figure"),
             ("mast.x", "boom.x", 13, "no chain named boom"),

@@ -2,7 +2,7 @@
 
 use crate::text::{same, Figure, File, Filed, Key, Lists, TextFault};
 use crate::why;
-use relaxed_ik::{Frames, Plan, Pose, Refusal};
+use relaxed_ik::{Frames, ObjectiveList, Plan, Pose, Refusal};
 
 /// Whether this program was built with the objective.
 pub const HAS_OBJECTIVE: bool = cfg!(feature = "objective");
@@ -50,6 +50,26 @@ impl Direction {
     }
 }
 
+/// Where a chain is to go.
+#[derive(Clone, Copy, Debug)]
+pub struct Goal {
+    pub position: [f64; 3],
+    /// Of the position, and 0 in the strict list, where they count for nothing.
+    pub tolerances: [f64; 3],
+}
+
+impl Goal {
+    fn of(numbers: &[f64], list: ObjectiveList) -> Self {
+        Self {
+            position: [numbers[0], numbers[1], numbers[2]],
+            tolerances: match list {
+                ObjectiveList::Tolerance => [numbers[7], numbers[8], numbers[9]],
+                ObjectiveList::Strict => [0.0; 3],
+            },
+        }
+    }
+}
+
 #[derive(Clone, Debug)]
 pub struct ChainWork {
     pub name: String,
@@ -58,8 +78,7 @@ pub struct ChainWork {
     pub end: Pose,
     pub direction: Direction,
     pub frames: Frames,
-    /// 13 floats, if the sheet has goals.
-    pub goal: Option<Vec<f64>>,
+    pub goal: Option<Goal>,
     /// Displacement, then offset w first, if the chain has one. Its tip is then the end.
     pub tool: Option<Vec<f64>>,
 }
@@ -207,8 +226,8 @@ fn degrees(computed: Option<f64>, figure: &Figure) -> Verdict {
     }
 }
 
-/// By the weights of the lists, or the built-in ones if they have none, and at the
-/// tips of their tools.
+/// By the weights of the lists, or the built-in ones if they have none, at the tips
+/// of their tools and by the list of objectives that is picked.
 #[cfg(feature = "objective")]
 fn objective(lists: &Lists, history: &[f64]) -> Result<Option<Slopes>, Refusal> {
     let given = relaxed_ik::Given {
@@ -217,6 +236,7 @@ fn objective(lists: &Lists, history: &[f64]) -> Result<Option<Slopes>, Refusal> 
         history,
         weights: &lists.weights,
         tools: lists.tools(),
+        list: lists.list,
     };
     let (found, _) = given.gradient_one_block(&lists.joints)?;
     Ok(Some(Slopes {
@@ -276,7 +296,10 @@ fn answered(file: &File, lists: &Lists) -> Result<Work, Refusal> {
         direction: Direction::of(&end),
         end,
         frames,
-        goal: file.goals.get(at).map(|row| row.numbers.clone()),
+        goal: file
+            .goals
+            .get(at)
+            .map(|row| Goal::of(&row.numbers, lists.list)),
         tool: chain.tool.as_ref().map(|row| row.numbers.clone()),
     });
     Ok(Work {
@@ -310,13 +333,15 @@ pub fn work(file: &File) -> Result<Work, Fault> {
     Ok(work)
 }
 
-/// Asks the library how long the lists are. Nothing but the arms is looked at.
+/// Asks the library how long the lists are, and how many objectives the list has
+/// that is picked. Nothing but the arms is looked at.
 pub fn plan(file: &File) -> Result<Plan, Fault> {
     let arms = file.arms();
     if let Some(uneven) = arms.uneven() {
         return Err(Fault::Text(uneven));
     }
-    let plan = arms.lists().sheet().plan();
+    let lists = arms.lists();
+    let plan = lists.sheet().plan(lists.list);
     plan.map_err(|refusal| Fault::refused(refusal, &arms))
 }
 
@@ -441,6 +466,30 @@ filed arm.z 2 4000000000000000
         }
     }
 
+    /// A strict goal has no tolerance, but is refused for one as ever.
+    #[test]
+    fn strict_goals_have_no_tolerance() {
+        let wide = |tolerances: &str, line: &str| {
+            let goal = format!("0.1 0.2 1.9  1 0 0 0  {tolerances} 0 0 0\n{line}\n");
+            work(&spoiled("0 0 2  1 0 0 0  0 0 0 0 0 0\n", &goal))
+        };
+        let drawn = |work: &Work| work.chains[0].goal.map(|goal| goal.tolerances);
+        let figures = |work: &Work| work.objective.clone();
+        for (line, strict) in [
+            ("", false),
+            ("goals tolerance", false),
+            ("goals strict", true),
+        ] {
+            let [near, far] = ["0 0 0", "0.5 0.6 0.7"].map(|t| wide(t, line).unwrap());
+            let expected = if strict { [0.0; 3] } else { [0.5, 0.6, 0.7] };
+            assert_eq!(drawn(&far), Some(expected));
+            if HAS_OBJECTIVE {
+                assert_eq!(figures(&near) == figures(&far), strict, "{line}");
+            }
+            assert_eq!(told(wide("0 0 200", line).unwrap_err()).0, 8);
+        }
+    }
+
     /// Neither limits nor joints nor goals are asked for, nor looked at.
     #[test]
     fn arms_alone_have_a_plan() {
@@ -453,7 +502,14 @@ filed arm.z 2 4000000000000000
         let arms: Vec<&str> = TWO.lines().take(4).collect();
         let odd = format!("{}\nlimits 1\nlimits 1 2 3\n", arms.join("\n"));
         for text in [TWO, &arms.join("\n"), &odd] {
-            assert_eq!(plan(&parse(text.as_bytes()).unwrap()), Ok(expected));
+            for (line, objectives) in [("", 12), ("goals tolerance", 12), ("goals strict", 8)] {
+                let file = parse(format!("{text}\n{line}").as_bytes()).unwrap();
+                let expected = Plan {
+                    objectives,
+                    ..expected
+                };
+                assert_eq!(plan(&file), Ok(expected), "{line}");
+            }
         }
         // A line too long and one too short by as much, which no list shows.
         let uneven = odd.replace("z  0 0 1", "z  0 1").replace("y  0", "y  0 0");

@@ -129,6 +129,13 @@ fn arms_are_planned_as_they_say() {
             said(&output)
         });
         assert_eq!(field(&json, "outcome"), "\"planned\"");
+        let strict = path.ends_with("_strict.sheet");
+        assert_eq!(json.contains("\"goals\":\"strict\""), strict, "{json}");
+        assert_eq!(
+            text.contains("\n  goals            strict\n"),
+            strict,
+            "{text}"
+        );
         for part in expected.split(", ") {
             let (name, count) = part.split_once(' ').unwrap();
             assert_eq!(field(&json, name), count, "{json}");
@@ -197,23 +204,38 @@ fn weights_are_told() {
     assert_eq!(met.len(), 3, "a sheet of each kind");
 }
 
+/// The line of a good sheet that begins with this word.
+#[cfg(feature = "objective")]
+fn line_of(sheet: &str, word: &str) -> String {
+    let text = fs::read_to_string(folder("good").join(sheet)).unwrap();
+    let line = text.lines().find(|line| line.starts_with(word));
+    line.unwrap().to_string()
+}
+
 /// A good sheet with another line in place of the one that begins with this word: the
 /// figures that then differ, and those that are filed.
 #[cfg(feature = "objective")]
 fn differing(sheet: &str, word: &str, other: &str) -> (Vec<String>, Vec<String>) {
     let text = fs::read_to_string(folder("good").join(sheet)).unwrap();
-    let line = text.lines().find(|line| line.starts_with(word)).unwrap();
     let figures = text.lines().filter_map(|line| line.strip_prefix("filed "));
     let figures = figures.map(|figure| figure.split(' ').next().unwrap().to_string());
     let name = format!("{word}{}{sheet}", other.len());
     let file = Path::new(env!("CARGO_TARGET_TMPDIR")).join(name);
-    fs::write(&file, text.replacen(line, other, 1)).unwrap();
+    fs::write(&file, text.replacen(&line_of(sheet, word), other, 1)).unwrap();
     let output = sonde(&[file.to_str().unwrap()]);
-    assert_eq!(output.status.code(), Some(1));
     let said = said(&output);
     let differ = said.lines().filter(|line| line.starts_with("DIFFERS"));
-    let differ = differ.map(|line| line.rsplit(' ').next().unwrap().to_string());
-    (differ.collect(), figures.collect())
+    let differ: Vec<String> = differ
+        .map(|line| line.rsplit(' ').next().unwrap().to_string())
+        .collect();
+    let status = i32::from(!differ.is_empty());
+    assert_eq!(output.status.code(), Some(status), "{said}");
+    (differ, figures.collect())
+}
+
+#[cfg(feature = "objective")]
+fn of_objective(figure: &String) -> bool {
+    figure == "objective" || figure.starts_with("slope.")
 }
 
 /// The filed objective and slopes are those of the weights: with others, and with
@@ -221,12 +243,77 @@ fn differing(sheet: &str, word: &str, other: &str) -> (Vec<String>, Vec<String>)
 #[cfg(feature = "objective")]
 #[test]
 fn weights_act_on_the_objective_alone() {
-    let of_weights = |figure: &String| figure == "objective" || figure.starts_with("slope.");
     for other in ["", "weights 1 1 1 1 1 1 1 1"] {
         let (differ, mut filed) = differing("granite.sheet", "weights", other);
-        filed.retain(of_weights);
+        filed.retain(of_objective);
         assert_eq!(differ, filed);
     }
+}
+
+/// The filed objective and slopes are those of the strict list: with the other one,
+/// named or not, they differ, and nothing else does.
+#[cfg(feature = "objective")]
+#[test]
+fn strict_goals_act_on_the_objective_alone() {
+    for sheet in ["surveyed_collar.sheet", "surveyed_pair.sheet"] {
+        for other in ["", "goals tolerance"] {
+            let (differ, mut filed) = differing(sheet, "goals", other);
+            filed.retain(of_objective);
+            assert_eq!(differ, filed);
+        }
+    }
+    let (differ, _) = differing("collar_12.sheet", "joints", &{
+        let joints = line_of("collar_12.sheet", "joints");
+        format!("{joints}\ngoals tolerance")
+    });
+    assert!(differ.is_empty(), "named or not");
+}
+
+/// Other tolerances change nothing of a strict goal, and much of another.
+#[cfg(feature = "objective")]
+#[test]
+fn strict_goals_look_at_no_tolerance() {
+    for (sheet, strict) in [("surveyed_collar.sheet", true), ("collar_12.sheet", false)] {
+        let goal = line_of(sheet, "goal ");
+        let other = goal.replace(" 0 0 0.05 0.1 0.1 3.2", " 0.01 0.02 0 0 0.3 0");
+        assert_ne!(other, goal);
+        let (differ, mut filed) = differing(sheet, "goal ", &other);
+        filed.retain(|figure| !strict && of_objective(figure));
+        assert_eq!(differ, filed, "{sheet}");
+    }
+}
+
+/// Which list serves is told in words, to programs and in the table where a sheet
+/// says so, and a sheet that does not is told as if there were but one.
+#[cfg(feature = "objective")]
+#[test]
+fn strict_goals_are_told() {
+    let table = said(&sonde(&["--batch", folder("good").to_str().unwrap()]));
+    let goals_at = table.find("     goals ").unwrap();
+    let mut met = 0;
+    for path in sheets("good") {
+        let strict = fs::read_to_string(&path)
+            .unwrap()
+            .contains("\ngoals strict\n");
+        let text = said(&sonde(&[path.to_str().unwrap()]));
+        let json = said(&sonde(&[path.to_str().unwrap(), "--json"]));
+        match strict {
+            true => {
+                assert_eq!(number(&text, "goals "), "strict");
+                assert_eq!(field(&json, "goals"), "\"strict\"");
+            }
+            false => assert!(
+                !text.contains("\n  goals ") && !json.contains("\"goals\""),
+                "{text}"
+            ),
+        }
+        met += usize::from(strict);
+        let name = path.file_name().unwrap().to_str().unwrap();
+        let row = table.lines().find(|line| line.starts_with(name)).unwrap();
+        let column = row.chars().skip(goals_at).take(10).collect::<String>();
+        assert_eq!(column.trim(), if strict { "strict" } else { "" }, "{row}");
+    }
+    assert!(met > 0, "a sheet with strict goals");
 }
 
 /// With another tool, and with none, everything that is filed differs but the
@@ -274,6 +361,7 @@ fn tools_are_told() {
     let mut met = 0;
     for path in sheets("good") {
         let sheet = fs::read_to_string(&path).unwrap();
+        let lines = |word: &str| sheet.lines().filter(|line| line.starts_with(word)).count();
         let line = sheet.lines().find_map(|line| line.strip_prefix("tool "));
         let text = said(&sonde(&[path.to_str().unwrap()]));
         let json = said(&sonde(&[path.to_str().unwrap(), "--json"]));
@@ -285,15 +373,18 @@ fn tools_are_told() {
         let name = path.file_name().unwrap().to_str().unwrap();
         let row = table.lines().find(|line| line.starts_with(name)).unwrap();
         let column = row.chars().skip(tools_at).take(7).collect::<String>();
-        let expected = line.map_or("", |_| "1/1");
+        let expected = line.map_or(String::new(), |_| {
+            format!("{}/{}", lines("tool "), lines("chain "))
+        });
         assert_eq!(column.trim(), expected, "{row}");
     }
-    assert_eq!(met, 1, "a sheet with a tool");
+    assert!(met > 0, "a sheet with a tool");
 }
 
-/// Where no sheet has a tool, the table has no column for them.
+/// Where no sheet has a tool or says by which list its goals count, the table has no
+/// column for that.
 #[test]
-fn a_table_without_tools_is_as_ever() {
+fn a_table_without_tools_and_lists_is_as_ever() {
     let table = said(&sonde(&["--batch", folder("bad").to_str().unwrap()]));
     let head = table.lines().next().unwrap();
     assert!(
@@ -327,8 +418,11 @@ fn a_drawing_is_written() {
         let drawing = fs::read_to_string(&file).unwrap();
         assert!(drawing.starts_with("<svg ") && drawing.ends_with("</svg>\n"));
         assert!(drawing.contains("From above") && drawing.contains("From the side"));
-        let with_tool = fs::read_to_string(&path).unwrap().contains("\ntool ");
-        assert_eq!(drawing.contains(">flange, "), with_tool);
+        let sheet = fs::read_to_string(&path).unwrap();
+        assert_eq!(drawing.contains(">flange, "), sheet.contains("\ntool "));
+        // The box of a tolerance.
+        let strict = sheet.contains("\ngoals strict\n");
+        assert!(!strict || !drawing.contains("stroke-dasharray=\"4 3\""));
     }
 }
 

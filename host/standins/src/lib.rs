@@ -1,7 +1,7 @@
 //! The functions outside the published files, as document 01's section
-//! 'Stand-ins' defines them, in its order. Each operation rounds once, left to
-//! right. Written from the paper, apart from the proved code, so that the two
-//! can be held against each other.
+//! 'Stand-ins' defines them, in its order, and the one that document 02 adds.
+//! Each operation rounds once, left to right. Written from the papers, apart
+//! from the proved code, so that the two can be held against each other.
 
 #![forbid(unsafe_code)]
 // Formulas are spelled as the paper spells them.
@@ -67,6 +67,22 @@ pub fn atan2(n: f64, w: f64) -> f64 {
     }
 }
 
+/// The angle whose cosine is w. Document 02's change 4 asks for |w| < 1; elsewhere
+/// this is whatever the same steps give.
+pub fn acos(w: f64) -> f64 {
+    let root = sqrt(1.0 - w * w);
+    let angle = if root == 0.0 {
+        0.0
+    } else {
+        atan2(root, w.abs())
+    };
+    if w < 0.0 {
+        3.141592653589793 - angle
+    } else {
+        angle
+    }
+}
+
 /// Powers by squaring. The paper defines the 2nd, 20th and 30th and the
 /// objectives of `relaxed_ik` ask for no other.
 pub fn powi(a: f64, n: i32) -> f64 {
@@ -107,6 +123,8 @@ pub fn cut(x: f64) -> f64 {
 /// of the same name, hence the prefix.
 pub trait StandIn {
     fn stand_in_sqrt(self) -> f64;
+    fn stand_in_sin(self) -> f64;
+    fn stand_in_acos(self) -> f64;
     fn stand_in_exp(self) -> f64;
     fn stand_in_powi(self, n: i32) -> f64;
 }
@@ -114,6 +132,14 @@ pub trait StandIn {
 impl StandIn for f64 {
     fn stand_in_sqrt(self) -> f64 {
         sqrt(self)
+    }
+
+    fn stand_in_sin(self) -> f64 {
+        sin(self)
+    }
+
+    fn stand_in_acos(self) -> f64 {
+        acos(self)
     }
 
     fn stand_in_exp(self) -> f64 {
@@ -170,6 +196,22 @@ mod tests {
             assert!((atan2(n, w.abs()) - a).abs() < 1e-14, "angle {a}");
         }
         assert_eq!(atan2(1.0, 0.0), 1.5707963267948966);
+    }
+
+    #[test]
+    fn arc_cosine_and_its_edges() {
+        assert_eq!(acos(1.0).to_bits(), 0.0f64.to_bits());
+        assert_eq!(acos(-1.0), 3.141592653589793);
+        assert_eq!(acos(0.0), 1.5707963267948966);
+        assert_eq!(acos(-0.0), 1.5707963267948966);
+        // The root is 0 where w * w rounds to 1, and only there.
+        let near = 1.0f64.next_down();
+        assert!(acos(near) > 0.0 && acos(-near) < 3.141592653589793);
+        assert!(acos(1.0f64.next_up()).is_nan() && acos(f64::NAN).is_nan());
+        for k in -999..=999 {
+            let w = f64::from(k) / 1000.0;
+            assert!((acos(w) - w.acos()).abs() < 1e-14, "arc cosine of {w}");
+        }
     }
 
     #[test]
