@@ -96,7 +96,7 @@ static int reserved;
 #define NO_TOOL (const uint8_t *)tool.at, 0
 
 static size_t tool_bytes; /* 0 until a tool is set */
-static uint32_t list = RELAXED_IK_TOLERANCE_LIST; /* of objectives, by which the rounds go */
+static uint32_t picked = RELAXED_IK_TOLERANCE_LIST; /* the list of objectives by which the rounds go */
 static unsigned long calls;
 
 #ifdef GUARDED
@@ -228,11 +228,11 @@ static int little_endian(void) {
     name.after = name.at + name.length;           \
     next = name.after + GUARD;
 
-/* Asks how long the lists have to be, and how many objectives there are by the list in force. */
+/* Asks how long the lists have to be, and how many objectives there are by the list that is picked. */
 static int size(void) {
-    if (!taken("sizing", ASK(relaxed_ik_sizing(READ(sizes), READ(codes), READ(floats), WRITE(plan), list)))) return 0;
+    if (!taken("sizing", ASK(relaxed_ik_sizing(READ(sizes), READ(codes), READ(floats), WRITE(plan), picked)))) return 0;
     printf("planned: %u objectives, goals %s\n", (unsigned)plan.at[RELAXED_IK_PLAN_OBJECTIVES],
-        list == RELAXED_IK_TOLERANCE_LIST ? "within tolerances" : "strict");
+        picked == RELAXED_IK_TOLERANCE_LIST ? "within tolerances" : "strict");
     return 1;
 }
 
@@ -321,13 +321,20 @@ static void print_end(const char *when) {
     printf("%s: end at %.4f %.4f %.4f, rotation %.4f %.4f %.4f %.4f\n", when, e[0], e[1], e[2], e[3], e[4], e[5], e[6]);
 }
 
+/* The angle between two rotations. A rotation has two signs, and as in the objective the nearer one counts. */
+static double angle(const double *g, const double *e) {
+    double a = relaxed_ik_angle_between_quaternion(g[0], g[1], g[2], g[3], e[0], e[1], e[2], e[3]);
+    double b = relaxed_ik_angle_between_quaternion(g[0], g[1], g[2], g[3], -e[0], -e[1], -e[2], -e[3]);
+    return b < a ? b : a;
+}
+
 /* Where the end is by now, and how far from its goal. */
 static int print_off(const char *when) {
     const double *e = ends.at, *g = goals.at;
     if (!pose()) return 0;
     print_end(when);
     printf("%s: %.4f m and %.4f rad from the goal\n", when, relaxed_ik_norm(e[0] - g[0], e[1] - g[1], e[2] - g[2]),
-        relaxed_ik_angle_between_quaternion(g[3], g[4], g[5], g[6], e[3], e[4], e[5], e[6]));
+        angle(g + 3, e + 3));
     return 1;
 }
 
@@ -360,7 +367,7 @@ static int rounds(int first) {
     for (round = first; round < first + ROUNDS; round++) {
         if (!taken("gradient", ASK(relaxed_ik_gradient_one_block(SHEET, READ(goals), READ(history), READ(weights), TOOLS, READ(joints),
                                    WRITE(value), WRITE(slopes), WRITE_PART(record_joints), WRITE_PART(record_links),
-                                   WRITE_PART(record_poses), list))))
+                                   WRITE_PART(record_poses), picked))))
             return 0;
         if (round % 25 == 0 || round == first + ROUNDS - 1) {
             /* The record stops at the last link: the first walk's last pose is the flange's, and no further call is needed for it. */
@@ -385,7 +392,7 @@ static int rounds(int first) {
  * serve if this plan has no more entries. */
 static int survey(void) {
     size_t carved = ENTRIES;
-    list = RELAXED_IK_STRICT_LIST;
+    picked = RELAXED_IK_STRICT_LIST;
     if (!size()) return 0;
     if (ENTRIES > carved) {
         printf("the record is too short: %lu entries, %lu are carved\n", (unsigned long)ENTRIES, (unsigned long)carved);

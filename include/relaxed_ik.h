@@ -1,4 +1,5 @@
-/* The proved library for x86-64 Linux, from C (C99) and C++.
+/* The proved library for x86-64 Linux, from C (C99) and C++. A linker does not notice that a call has gained a list or a number: compile what
+ * calls the library again with the header that came with it.
  *
  * Lists. A list crosses as a pointer and a length in bytes. u16s take two bytes each and floats (IEEE 754 binary64) eight, the lowest byte
  * first; on x86-64 that is how uint16_t and double lie in memory, so an array of them can be lent as it is.

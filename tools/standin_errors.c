@@ -1,5 +1,5 @@
-/* standin_errors COUNT SEED: how far the proved sine, cosine, exponential and atan2 are from long double functions, whose own error (below
- * 1e-19 of the value) does not matter here. A range is searched at COUNT random arguments, then around the worst and around notable ones. */
+/* standin_errors COUNT SEED: how far the proved sine, cosine, exponential, atan2 and acos are from long double functions, whose own error
+ * (below 1e-19 of the value) does not matter here. A range is searched at COUNT random arguments, then around the worst and around notable ones. */
 #include "relaxed_ik.h"
 
 #include <math.h>
@@ -79,6 +79,11 @@ static double atan2_error(double a, double b) {
     return relative(relaxed_ik_atan2(a, b), atan2l((long double)a, (long double)b));
 }
 
+static double acos_error(double a, double b) {
+    (void)b;
+    return relative(relaxed_ik_acos(a), acosl((long double)a));
+}
+
 /* Half joints and what they are raised by: half of them anywhere, a quarter in the outer tenth, the rest of every size. */
 static void half_joint(double most, Found *f) {
     uint64_t kind = draw() % 4;
@@ -116,6 +121,14 @@ static void pair(Found *f) {
     }
 }
 
+/* Cosines: half of them anywhere within -1..1, a quarter near 1 in size, the rest of every size. */
+static void cosine(Found *f) {
+    uint64_t kind = draw() % 4;
+    double a = kind < 2 ? unit() : kind == 2 ? 1 - magnitude(-53, -2) : magnitude(-60, -2);
+    f->a = draw() % 2 ? a : -a;
+    f->b = 0;
+}
+
 typedef struct {
     const char *name, *range, *kind;
     double (*error)(double, double);
@@ -126,6 +139,8 @@ typedef struct {
 } Search;
 
 static const double PI = 3.141592653589793;
+static const double BELOW_1 = 1 - 0x1p-53;
+static const double SCALED = 0.99998749992187402; /* sqrt(1 - 0.005 * 0.005) */
 
 static int inside(const Search *s, double a) {
     return a >= s->low && a <= s->high;
@@ -203,6 +218,8 @@ int main(int count, char **words) {
         {"exponential", "-700 to 0", "relative", exp_error, exponent, -700, 0, 0, {-700, -512, -1, -0.5, -0x1p-10, 0}},
         {"atan2", "unit quaternions", "relative", atan2_error, quaternion, 0x1p-1000, 2, 1, {1, 0}},
         {"atan2", "any n > 0, w >= 0", "relative", atan2_error, pair, 0x1p-1000, 0x1p100, 1, {1, 0x1p-30, 0x1p30, 0.41421356237309503, 2.414213562373095, 0}},
+        {"acos", "between -1 and 1", "relative", acos_error, cosine, -BELOW_1, BELOW_1, 0, {BELOW_1, 0.5, 0x1p-27, 0x1p-60, 0}},
+        {"acos", "where the sine of the angle is at least 0.005", "relative", acos_error, cosine, -SCALED, SCALED, 0, {SCALED, 0.5, 0x1p-27, 0x1p-60, 0}},
     };
     char *end;
     uint64_t many = count == 3 ? strtoull(words[1], &end, 10) : 0;

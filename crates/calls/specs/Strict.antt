@@ -1,4 +1,4 @@
--- The two lists of objectives, written out apart from the definition by which code goes, and which of them a call goes by. What an objective costs does not depend on the pick.
+-- The two lists of objectives, their goals written out apart from the definition by which code goes, and which of them a call goes by. What an objective costs does not depend on the pick.
 use mathlib.Core.Path.{_≡_, refl, ap, fun-ext, _∙_}
 use mathlib.Core.Bool.{Bool, true, false}
 use mathlib.Core.List.{List, [], _∷_, _++_, map}
@@ -13,7 +13,7 @@ use Rattle.sheet.specs.Chain.{total}
 use Rattle.task.specs.declared.picks.Picks.{Picks}
 use Rattle.task.specs.Task.{Given}
 use Rattle.self_collision.specs.Pairs.{allPairs, firstArm, chainLengths}
-use Rattle.objective_master.specs.Objective.{Objective, MatchEEPosiDoF, MatchEERotaDoF, MatchEEPosGoals, MatchEEQuatGoals, EachJointLimits, MinimizeVelocity, MinimizeAcceleration, MinimizeJerk, MaximizeManipulability, SelfCollision, goalObjectives, limitObjective, motionObjectives, pairObjective, objectives}
+use Rattle.objective_master.specs.Objective.{Objective, MatchEEPosiDoF, MatchEERotaDoF, MatchEEPosGoals, MatchEEQuatGoals, EachJointLimits, MinimizeVelocity, MinimizeAcceleration, MinimizeJerk, MaximizeManipulability, SelfCollision, goalObjectives, limitObjective, motionObjectives, pairObjective, pickedList, objectives}
 use Rattle.objective_master.specs.Losses.{lossOf, lossesOf, objectivesOf}
 use Rattle.objective_master.specs.Weights.{weightedOf}
 use Rattle.objective_master.specs.Call.{objectiveOf}
@@ -83,29 +83,27 @@ loss-any-pick p g P x MinimizeJerk = refl
 loss-any-pick p g P x MaximizeManipulability = refl
 loss-any-pick p g P x (SelfCollision arm j k) = refl
 
-goals-source : (lens : List ℕ) → runs (goalObjectives false) 0 (length lens) ++ restObjectives lens ≡ sourceObjectives lens
-unfolding goalObjectives sixObjectives sourceObjectives
-goals-source lens = refl
-
-goals-strict : (lens : List ℕ) → runs (goalObjectives true) 0 (length lens) ++ restObjectives lens ≡ strictObjectives lens
-unfolding goalObjectives twoObjectives strictObjectives
-goals-strict lens = refl
-
-by-goals : (g : Given) (strict : Bool) → g .picks .strict ≡ strict
-    → objectivesOf g ≡ runs (goalObjectives strict) 0 (length (chainLengths (g .counts) (g .codes))) ++ restObjectives (chainLengths (g .counts) (g .codes))
+by-pick : (p : Picks) (strict : Bool) (lens : List ℕ) → p .strict ≡ strict → objectives (pickedList p) lens ≡ runs (goalObjectives strict) 0 (length lens) ++ restObjectives lens
 unfolding objectives restObjectives
-by-goals g strict e =
-    let lens : List ℕ = chainLengths (g .counts) (g .codes) in
-    ap (λ (s : Bool). runs (goalObjectives s) 0 (length lens) ++ restObjectives lens) e
+by-pick p strict lens e = ap (λ (s : Bool). runs (goalObjectives s) 0 (length lens) ++ restObjectives lens) e
 
 -- not picked, the list is the source's own; picked, it is the strict one
+pub source-list : (p : Picks) (lens : List ℕ) → p .strict ≡ false → objectives (pickedList p) lens ≡ sourceObjectives lens
+unfolding goalObjectives sixObjectives sourceObjectives
+source-list p lens e = by-pick p false lens e
+
+pub strict-list : (p : Picks) (lens : List ℕ) → p .strict ≡ true → objectives (pickedList p) lens ≡ strictObjectives lens
+unfolding goalObjectives twoObjectives strictObjectives
+strict-list p lens e = by-pick p true lens e
+
+-- so it is for what a call is given
 pub not-picked : (g : Given) → g .picks .strict ≡ false → objectivesOf g ≡ sourceObjectives (chainLengths (g .counts) (g .codes))
-not-picked g e = by-goals g false e ∙ goals-source (chainLengths (g .counts) (g .codes))
+not-picked g e = source-list (g .picks) (chainLengths (g .counts) (g .codes)) e
 
 pub picked : (g : Given) → g .picks .strict ≡ true → objectivesOf g ≡ strictObjectives (chainLengths (g .counts) (g .codes))
-picked g e = by-goals g true e ∙ goals-strict (chainLengths (g .counts) (g .codes))
+picked g e = strict-list (g .picks) (chainLengths (g .counts) (g .codes)) e
 
--- so value and slopes go by that list
+-- value and slopes go by that list
 module _ (g : Given) (os : List Objective) (list : objectivesOf g ≡ os) (gs : List Float) where
   pub value-by : (x : List Float) → valueAt g gs x ≡ valueBy os g gs x
   unfolding valueAt objectiveOf lossesOf valueBy

@@ -107,7 +107,7 @@ outputsFrom c =
     (cond (eqb c 6) armOutputs (cond (eqb c 7) poseOutputs (cond (eqb c 8) objectiveOutputs (cond (eqb c 9) objectiveOutputs (cond (eqb c 10) objectiveOutputs
     (cond (eqb c 41) planOutput (cond (eqb c 42) (setWeightsList + 1) (cond (eqb c 43) (chainList + 1) answeredList)))))))))))))
 
--- and how many it has: a leaf one, 42 and 43 none
+-- and how many it has: 0, 1, 42 and 43 none, a leaf one
 unfoldable pub outputsOf : ℕ → ℕ
 outputsOf c = cond (ltb c 2) 0 (cond (ltb c 6) 1 (cond (ltb c 8) 2 (cond (ltb c 10) 3 (cond (eqb c 10) 5 (cond (ltb c 42) 1 (cond (ltb c 44) 0 1))))))
 

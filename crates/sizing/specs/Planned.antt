@@ -17,6 +17,7 @@ use Rattle.self_collision.specs.Pairs.{chainLengths, lengths-count}
 use Rattle.objective_master.specs.Count.{strict-shorter}
 use Rattle.calls.specs.Frames.{framesRefusal}
 use Rattle.calls.specs.OneBlock.{recordRefusal, oneBlockRefusal}
+use Rattle.calls.specs.Strict.{sourceObjectives, strictObjectives, source-list, strict-list}
 use Rattle.sizing.specs.declared.plan.Plan.{Plan}
 use Rattle.sizing.specs.Sizing.{planOf}
 
@@ -88,3 +89,12 @@ pub strict-planned : (ns cs : List ℕ) → FourFewer (length ns) (planOf (recor
 unfolding planOf
 strict-planned ns cs =
     record { objectives = omega (arith, strict-shorter (chainLengths ns cs), lengths-count ns cs); positions = refl; rotations = refl; entries = refl }
+
+-- not picked, a plan counts the source's own list, as it did before there was a pick; picked, the strict one
+pub source-list-planned : (picks : Picks) (ns cs : List ℕ) → picks .strict ≡ false → planOf picks ns cs .objectives ≡ length (sourceObjectives (chainLengths ns cs))
+unfolding planOf
+source-list-planned picks ns cs e = ap length (source-list picks (chainLengths ns cs) e)
+
+pub strict-list-planned : (picks : Picks) (ns cs : List ℕ) → picks .strict ≡ true → planOf picks ns cs .objectives ≡ length (strictObjectives (chainLengths ns cs))
+unfolding planOf
+strict-list-planned picks ns cs e = ap length (strict-list picks (chainLengths ns cs) e)

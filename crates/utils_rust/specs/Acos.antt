@@ -9,13 +9,13 @@ use Rattle.standins.specs.Series.{atan2Of}
 abbrev pub halfTurn : Float
 halfTurn = ofBits binary64 0x4009_21fb_5444_2d18
 
--- sqrt(1 - w·w)
-unfoldable pub besideOf : Float → Float
-besideOf w = rootOf (one ⊖ w ⊗ w)
+-- sqrt(1 - w·w), the side opposite the angle whose cosine is w
+unfoldable pub oppositeOf : Float → Float
+oppositeOf w = rootOf (one ⊖ w ⊗ w)
 
 -- atan2 of that root and |w|; a root of 0 gives 0
 unfoldable pub acuteOf : Float → Float
-acuteOf w = cond (eq (besideOf w) nought) nought (atan2Of (besideOf w) (absOf w))
+acuteOf w = cond (eq (oppositeOf w) nought) nought (atan2Of (oppositeOf w) (absOf w))
 
 -- for negative w half a turn minus that
 unfoldable pub acosOf : Float → Float

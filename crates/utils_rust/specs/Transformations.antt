@@ -1,4 +1,4 @@
--- transformations.rs: the logarithm of a rotation, and the angle between two.
+-- transformations.rs: the logarithm of a rotation, and the angle between two; and nalgebra's `from_quaternion`, which `MatchEEQuatGoals` asks for.
 use mathlib.Core.Bool.{cond, _&&_}
 use lib.Ieee.{Float, binary64, ofBits, lt, le}
 use Rattle.root.specs.Root.{rootOf}

@@ -8,19 +8,19 @@ use Rattle.standins.specs.Series.{downFrom, sineDivisor, termOf, seriesOf, sine
 use Rattle.geometry.specs.declared.quaternion.Quat.{Quat}
 use Rattle.geometry.specs.Vector.{vec}
 use Rattle.geometry.specs.Quaternion.{quat, axisOf}
-use Rattle.utils_rust.specs.Acos.{halfTurn, besideOf, acuteOf, acosOf}
+use Rattle.utils_rust.specs.Acos.{halfTurn, oppositeOf, acuteOf, acosOf}
 use Rattle.utils_rust.specs.Transformations.{quaternionLog}
 
 pub acos-one : acosOf one ≡ nought
-unfolding acosOf acuteOf besideOf rootOf sub mul lt eq ofBits
+unfolding acosOf acuteOf oppositeOf rootOf sub mul lt eq ofBits
 acos-one = refl
 
 pub acos-nought : acosOf nought ≡ quarterTurn
-unfolding acosOf acuteOf besideOf rootOf absOf atan2Of smallAngleOf halvedOf arcSeriesOf arcTermOf downFrom add sub mul div lt eq ofInt ofBits
+unfolding acosOf acuteOf oppositeOf rootOf absOf atan2Of smallAngleOf halvedOf arcSeriesOf arcTermOf downFrom add sub mul div lt eq ofInt ofBits
 acos-nought = refl
 
 pub acos-minus-one : acosOf (neg one) ≡ halfTurn
-unfolding acosOf acuteOf besideOf rootOf sub mul neg lt eq ofBits
+unfolding acosOf acuteOf oppositeOf rootOf sub mul neg lt eq ofBits
 acos-minus-one = refl
 
 -- |w| not under 1
@@ -35,5 +35,5 @@ log-nan i j k = refl
 
 -- w = -0.99999: acos(w) is nearly π, and its sine under 0.005
 pub log-near-minus-one : (i j k : Float) → quaternionLog (quat (ofBits binary64 0xbfef_ffeb_074a_771d) i j k) ≡ vec i j k
-unfolding quaternionLog axisOf acosOf acuteOf besideOf rootOf absOf atan2Of smallAngleOf halvedOf arcSeriesOf arcTermOf sineOf seriesOf sineDivisor termOf downFrom add sub mul div lt le eq ofInt ofBits
+unfolding quaternionLog axisOf acosOf acuteOf oppositeOf rootOf absOf atan2Of smallAngleOf halvedOf arcSeriesOf arcTermOf sineOf seriesOf sineDivisor termOf downFrom add sub mul div lt le eq ofInt ofBits
 log-near-minus-one i j k = refl

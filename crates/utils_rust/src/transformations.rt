@@ -1,4 +1,5 @@
 // transformations.rs: the logarithm of a rotation, and the angle between two.
+// Beside them `from_quaternion`, which `MatchEEQuatGoals` asks for.
 use crate::acos;
 use geometry::quaternion;
 use geometry::quaternion::Quat;

@@ -415,6 +415,23 @@ pub fn play(state: &mut State, asked: &Asked) -> Record {
     }
 }
 
+/// The same with outputs of just the lengths that are needed.
+pub fn play_exact(state: &mut State, step: Step, lent: &Lent) -> Record {
+    let spare = 0;
+    play(state, &Asked { step, lent, spare })
+}
+
+/// What a call on goals lacks behind a change that answered this number.
+#[cfg(test)]
+pub fn lacking_after(step: Step, number: u32, before: u32) -> u32 {
+    match (step, number) {
+        (Load, ACCEPTED) => 21,
+        (SetGoals, ACCEPTED) if before == 21 => 22,
+        (Reset, ACCEPTED) if before == 22 => ACCEPTED,
+        _ => before,
+    }
+}
+
 /// An accepted load clears goals, history and tools and keeps the weights; a
 /// refused one leaves all as it was.
 fn load(state: &mut State, lent: &Lent) -> u32 {

@@ -6,7 +6,7 @@ use crate::cases::{exact, lent, link, LARGE, SHAPES, SMALL};
 use crate::leaves::{self, four, three, unit, vector};
 use crate::record::Record;
 use crate::tools::{self, mounted, spoil, FOUR};
-use crate::weights::{self, alone, drawn};
+use crate::weights::{self, alone, drawn, Share, SHARES};
 use draw::kind::Kind;
 use draw::{turned, Draw, HALVES, NANS, SIGNS};
 use nalgebra::UnitQuaternion;
@@ -17,28 +17,22 @@ use reference::utils_rust::transformations::{
 };
 use standins::acos;
 
-type Share = (Call, usize, usize);
-
-/// The calls on goals, and of the lists below the first one that each is lent and
-/// the step to the next: the objective has all of them, the gradients share them out.
-const SHARES: [Share; 4] = [
-    (Call::Objective, 0, 1),
-    (Call::Gradient, 0, 3),
-    (Call::GradientFiniteDiff, 1, 3),
-    (Call::GradientOneBlock, 2, 3),
-];
-
 /// Numbers that pick the strict list, in turn.
 pub const PICKS: [u16; 4] = [1, 2, 256, u16::MAX];
 /// Draws of each leaf besides its edges.
 const DRAWS: usize = 2;
 
+/// The calls that take a pick.
+#[cfg(test)]
+fn picking() -> impl Iterator<Item = Call> {
+    let goals = SHARES.map(|(call, ..)| call);
+    goals.into_iter().chain([Call::Sizing])
+}
+
 /// Where the pick is in a record, if its call takes one.
 #[cfg(test)]
 pub fn place(record: &Record) -> Option<usize> {
-    let calls = SHARES.map(|(call, ..)| call);
-    let mut calls = calls.into_iter().chain([Call::Sizing]);
-    let call = calls.find(|call| *call as u16 == record.call)?;
+    let call = picking().find(|call| *call as u16 == record.call)?;
     call.read().iter().position(|list| *list == List::Strict)
 }
 
@@ -269,11 +263,7 @@ mod tests {
             let possible: Vec<u32> = std::iter::once(0).chain(share).collect();
             assert_eq!(met, possible, "{call:?}");
         }
-        for call in SHARES
-            .map(|(call, ..)| call)
-            .into_iter()
-            .chain([Call::Sizing])
-        {
+        for call in picking() {
             for pick in PICKS.into_iter().chain([0]) {
                 let stored = pick.to_le_bytes();
                 let met = |record: &Record| record.lists[place(record).unwrap()] == stored;
@@ -293,14 +283,9 @@ mod tests {
     fn a_pick_shows() {
         let mut draw = Draw::new(3);
         for mut lent in taken(&mut draw) {
-            let none = [
-                Call::Objective,
-                Call::Gradient,
-                Call::GradientOneBlock,
-                Call::Sizing,
-            ]
-            .map(|call| (call, outputs(call, &lent)));
-            for (call, none) in none {
+            for call in picking() {
+                lent.bytes[List::Strict as usize].clear();
+                let none = outputs(call, &lent);
                 lent.set_pick(0);
                 assert_eq!(outputs(call, &lent), none, "{call:?}");
                 lent.set_pick(PICKS[0]);

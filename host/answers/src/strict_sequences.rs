@@ -5,7 +5,7 @@
 use crate::arms::{Lent, List};
 use crate::cases::{lent, link, Shape, SHAPES, SMALL};
 use crate::record::Record;
-use crate::sequences::{near, play, Asked, State, Step};
+use crate::sequences::{near, play_exact, State, Step};
 use crate::strict::PICKS;
 use crate::tools::set_chain;
 use crate::weights::{drawn, WRONG};
@@ -72,14 +72,7 @@ fn sequence(
     let mut state = State::default();
     let mut own = lent(shape, draw);
     let mut picks = PICKS.into_iter().cycle();
-    let mut ask = |step: Step, lent: &Lent| {
-        let asked = Asked {
-            step,
-            lent,
-            spare: 0,
-        };
-        records.push(play(&mut state, &asked));
-    };
+    let mut ask = |step, lent: &Lent| records.push(play_exact(&mut state, step, lent));
     ask(Empty, &own);
     for &change in changes {
         if change.0 == Load {
@@ -108,6 +101,7 @@ pub fn all(draw: &mut Draw) -> Vec<Record> {
 #[cfg(test)]
 mod tests {
     use super::*;
+    use crate::sequences::lacking_after;
 
     /// Each change answers what it is to, and the calls behind it lack what the
     /// changes up to there have not brought, whatever the pick; once nothing is
@@ -122,12 +116,7 @@ mod tests {
             for &(step, number) in changes {
                 let change = records.next().expect("a change");
                 assert_eq!((change.call, change.number), (step as u16, number));
-                lacking = match step {
-                    Load => 21,
-                    SetGoals if lacking == 21 => 22,
-                    Reset if lacking == 22 => 0,
-                    _ => lacking,
-                };
+                lacking = lacking_after(step, number, lacking);
                 for asked in ASKED {
                     let [strict, tolerance] = [(); 2].map(|()| records.next().expect("a call"));
                     for record in [strict, tolerance] {

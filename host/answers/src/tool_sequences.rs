@@ -5,7 +5,7 @@
 use crate::arms::{Lent, List};
 use crate::cases::{lent, Shape, SHAPES, SMALL};
 use crate::record::Record;
-use crate::sequences::{near, play, Asked, State, Step};
+use crate::sequences::{near, play_exact, State, Step};
 use crate::tools::{set_chain, taken, Tool, WRONG};
 use draw::Draw;
 
@@ -99,14 +99,7 @@ fn sequence(
 ) {
     let mut state = State::default();
     let mut own = lent(shape, draw);
-    let mut ask = |step: Step, lent: &Lent| {
-        let asked = Asked {
-            step,
-            lent,
-            spare: 0,
-        };
-        records.push(play(&mut state, &asked));
-    };
+    let mut ask = |step, lent: &Lent| records.push(play_exact(&mut state, step, lent));
     ask(Empty, &own);
     for &(step, number, chain) in changes {
         if (step, number) == (Load, 0) {
@@ -139,6 +132,7 @@ pub fn all(draw: &mut Draw) -> Vec<Record> {
 #[cfg(test)]
 mod tests {
     use super::*;
+    use crate::sequences::lacking_after;
 
     /// Each change answers what it is to, and the calls behind it lack what the
     /// changes up to there have not brought. Of what is kept a tool changes
@@ -154,12 +148,7 @@ mod tests {
             for &(step, number, _) in changes {
                 let change = records.next().expect("a change");
                 assert_eq!((change.call, change.number), (step as u16, number));
-                lacking = match (step, number) {
-                    (Load, 0) => 21,
-                    (SetGoals, 0) if lacking == 21 => 22,
-                    (Reset, 0) if lacking == 22 => 0,
-                    _ => lacking,
-                };
+                lacking = lacking_after(step, number, lacking);
                 for asked in ASKED {
                     let record = records.next().expect("a call");
                     // A pose needs arms and nothing else.
@@ -187,14 +176,7 @@ mod tests {
     fn start_poses_have_their_tools() {
         let mut draw = Draw::new(3);
         let (own, mut state) = (lent(SHAPES[2], &mut draw), State::default());
-        let mut ask = |step: Step, lent: &Lent| {
-            let asked = Asked {
-                step,
-                lent,
-                spare: 0,
-            };
-            play(&mut state, &asked)
-        };
+        let mut ask = |step, lent: &Lent| play_exact(&mut state, step, lent);
         ask(Load, &own);
         let mut tool = own.clone();
         tool.set(List::Tool0, &taken(&mut draw)[4]);

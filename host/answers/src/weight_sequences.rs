@@ -5,7 +5,7 @@
 use crate::arms::{Lent, List};
 use crate::cases::{lent, Shape, FAULTS, SHAPES, SMALL};
 use crate::record::Record;
-use crate::sequences::{near, play, Asked, State, Step};
+use crate::sequences::{near, play_exact, State, Step};
 use crate::weights::{alone, drawn, ends, wrong_floats};
 use draw::Draw;
 use reference::weights::built_in;
@@ -138,14 +138,7 @@ fn sequence(
     let mut state = State::default();
     let mut own = lent(shapes[0], draw);
     let mut loads = shapes.into_iter().cycle();
-    let mut ask = |step: Step, lent: &Lent| {
-        let asked = Asked {
-            step,
-            lent,
-            spare: 0,
-        };
-        records.push(play(&mut state, &asked));
-    };
+    let mut ask = |step, lent: &Lent| records.push(play_exact(&mut state, step, lent));
     ask(Empty, &own);
     for &change in changes {
         if change == (Load, false) {

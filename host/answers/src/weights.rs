@@ -10,12 +10,12 @@ use reference::weights::{built_in, WEIGHTS};
 
 use List::Weights;
 
-type Share = (Call, usize, usize);
+pub type Share = (Call, usize, usize);
 
-/// The calls that are lent weights, and of the lists below the first one that
-/// each is lent and the step to the next: the objective has all of them, the
-/// gradients share them out.
-const SHARES: [Share; 4] = [
+/// The calls on goals, which are lent weights and take a pick, and of a list of
+/// cases the first one that each has and the step to the next: the objective has
+/// all of them, the gradients share them out.
+pub const SHARES: [Share; 4] = [
     (Call::Objective, 0, 1),
     (Call::Gradient, 0, 3),
     (Call::GradientFiniteDiff, 1, 3),

@@ -7,9 +7,8 @@ use crate::groove::objective::{MatchEEPosGoals, MatchEEQuatGoals, ObjectiveTrait
 use crate::groove::objective_master::ObjectiveMaster;
 
 /// Which list of objectives a call works with.
-#[derive(Clone, Copy, Debug, Default, PartialEq, Eq)]
+#[derive(Clone, Copy, Debug, PartialEq, Eq)]
 pub enum Pick {
-    #[default]
     Tolerance,
     Strict,
 }

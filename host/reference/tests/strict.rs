@@ -138,7 +138,8 @@ fn turn(w: f64, i: f64, j: f64, k: f64) -> UnitQuaternion<f64> {
     UnitQuaternion::new_unchecked(Quaternion::new(w, i, j, k))
 }
 
-/// A goal met costs least, by a rotation of either sign; half a turn costs most.
+/// A goal met costs least, by a rotation of either sign; half a turn costs by its
+/// angle, and nothing costs more.
 #[test]
 fn a_goal_met_costs_least() {
     let at = Vector3::new(0.3, -0.2, 1.5);
@@ -154,6 +155,10 @@ fn a_goal_met_costs_least() {
     assert!((angle - std::f64::consts::PI).abs() < 1e-14);
     let most = groove_loss(angle, 0.0, 2, 0.1, 10.0, 2);
     assert_eq!(rotation_goal(goal, opposite), most);
+    for half in (1..=30).map(|part| f64::from(part) * 0.1) {
+        let end = goal * turn(half.cos(), 0.0, half.sin(), 0.0);
+        assert!(rotation_goal(goal, end) < most, "{half}");
+    }
 }
 
 /// A w of -1 or beyond keeps its vector, and so does one whose sine is small.
@@ -163,7 +168,7 @@ fn a_log_is_scaled_between_its_ends() {
     for w in [1.0, -1.0, 1.0f64.next_up(), -2.0, f64::NAN, f64::INFINITY] {
         assert_eq!(log(w, 0.25), 0.25, "{w}");
     }
-    // Sines of 0.005 and a little more, at either end.
+    // Sines of a little less than 0.005 and of a little more, at either end.
     for sign in [1.0, -1.0] {
         assert_eq!(log(sign * (1.0f64 - 0.0049 * 0.0049).sqrt(), 0.25), 0.25);
         assert_ne!(log(sign * (1.0f64 - 0.0051 * 0.0051).sqrt(), 0.25), 0.25);

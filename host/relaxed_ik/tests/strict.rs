@@ -66,7 +66,7 @@ fn a_turn_from_one_to_another() {
 
 #[cfg(feature = "objective")]
 mod objective {
-    use super::lists::{chains, Lists, BUILT_IN, GOAL};
+    use super::lists::{answers, chains, Answers, Lists, BUILT_IN, GOAL};
     use super::{near, negative, STILL, THIRD};
     use relaxed_ik::leaves::{loss_pos_goals, loss_quat_goals};
     use relaxed_ik::ObjectiveList::{Strict, Tolerance};
@@ -108,8 +108,7 @@ mod objective {
     }
 
     impl Asked {
-        /// What all four calls answer, the objective without slopes, and the record.
-        fn answers(&self) -> ([Result<Slopes, Refusal>; 4], Record) {
+        fn answers(&self) -> (Answers, Record) {
             let blocks = [0.0, 0.01, 0.03, 0.04].map(|by| JOINTS.map(|v| v - by));
             let given = Given {
                 sheet: self.lists.sheet(),
@@ -119,21 +118,7 @@ mod objective {
                 tools: TOOLS,
                 list: self.list,
             };
-            let alone = |value| Slopes {
-                value,
-                slopes: Vec::new(),
-            };
-            let (one_block, record) = match given.gradient_one_block(&JOINTS) {
-                Ok((found, record)) => (Ok(found), record),
-                Err(refusal) => (Err(refusal), Record::new()),
-            };
-            let answers = [
-                given.objective(&JOINTS).map(alone),
-                given.gradient(&JOINTS),
-                given.gradient_finite_diff(&JOINTS),
-                one_block,
-            ];
-            (answers, record)
+            answers(&given, &JOINTS)
         }
 
         fn found(&self) -> [Slopes; 4] {

@@ -159,19 +159,16 @@ fn a_displacement_is_rotated_and_an_offset_without_axis_skipped() {
 
 #[cfg(feature = "objective")]
 mod objective {
-    use super::lists::{Lists, BUILT_IN, GOAL};
+    use super::lists::{answers, Answers, Lists, BUILT_IN, GOAL};
     use super::{arms, lengthened, on, tools, with, JOINTS, TOOL};
     use relaxed_ik::ObjectiveList::{self, Strict, Tolerance};
-    use relaxed_ik::{Given, Record, Refusal, Slopes, Tools, NO_TOOLS};
-
-    type Answers = [Result<Slopes, Refusal>; 4];
+    use relaxed_ik::{Given, Record, Refusal, Tools, NO_TOOLS};
 
     fn asked(lists: &Lists, weights: &[f64], tools: Tools) -> (Answers, Record) {
         asked_by(Tolerance, lists, weights, tools)
     }
 
-    /// What all four calls answer of the arms in motion, the objective without
-    /// slopes, and the record.
+    /// What all four calls answer of the arms in motion, and the record.
     fn asked_by(
         list: ObjectiveList,
         lists: &Lists,
@@ -187,21 +184,7 @@ mod objective {
             tools,
             list,
         };
-        let alone = |value| Slopes {
-            value,
-            slopes: Vec::new(),
-        };
-        let (one_block, record) = match given.gradient_one_block(&JOINTS) {
-            Ok((found, record)) => (Ok(found), record),
-            Err(refusal) => (Err(refusal), Record::new()),
-        };
-        let answers = [
-            given.objective(&JOINTS).map(alone),
-            given.gradient(&JOINTS),
-            given.gradient_finite_diff(&JOINTS),
-            one_block,
-        ];
-        (answers, record)
+        answers(&given, &JOINTS)
     }
 
     /// Value and slopes of all four calls, to the bit, and one block as two.

@@ -1,7 +1,7 @@
 //! What is said of a sheet: in words, or as JSON for programs.
 
 use crate::text::{File, PARTS};
-use crate::work::{part_of, with_bits, ChainWork, Fault, Verdict, Work, HAS_OBJECTIVE};
+use crate::work::{part_of, with_bits, ChainWork, Check, Fault, Verdict, Work, HAS_OBJECTIVE};
 use relaxed_ik::WEIGHTS;
 use std::fmt::Write as _;
 
@@ -295,7 +295,7 @@ fn filed_text(work: &Work) -> String {
     out
 }
 
-fn figure(check: &crate::work::Check) -> String {
+fn figure(check: &Check) -> String {
     use crate::text::Figure;
     match &check.filed.figure {
         Figure::Exact(v) => with_bits(*v),
@@ -368,47 +368,11 @@ pub fn head_json(
 }
 
 fn work_json(file: &File, work: &Work) -> Vec<(&'static str, String)> {
-    let chain = |chain: &ChainWork| {
-        let parts = PARTS.iter().enumerate();
-        let end: Vec<_> = parts
-            .map(|(part, name)| (*name, float(part_of(&chain.end, part))))
-            .collect();
-        let mut fields = vec![
-            ("name", string(&chain.name)),
-            ("links", chain.codes.len().to_string()),
-            ("joints", chain.joints.to_string()),
-            ("end", object(&end)),
-            ("azimuth", optional(chain.direction.azimuth.map(plain))),
-            ("inclination", plain(chain.direction.inclination)),
-        ];
-        // Only where there is one: a sheet without tools is told as ever.
-        if chain.tool.is_some() {
-            let tool: Vec<_> = named_tool(chain)
-                .map(|(name, v)| (name, float(v)))
-                .collect();
-            fields.push(("tool", object(&tool)));
-        }
-        object(&fields)
-    };
     let slopes = work.objective.as_ref();
     let slopes = slopes.map(|found| array(found.slopes.iter().map(|v| float(*v))));
-    let check = |check: &crate::work::Check| {
-        let (verdict, came) = match &check.verdict {
-            Verdict::Agrees => ("agrees", None),
-            Verdict::Differs(came) => ("differs", Some(string(came))),
-            Verdict::NotChecked => ("not checked", None),
-        };
-        object(&[
-            ("figure", string(&check.filed.name)),
-            ("line", check.filed.line.to_string()),
-            ("verdict", string(verdict)),
-            ("filed", string(&figure(check))),
-            ("came_out", optional(came)),
-        ])
-    };
     let mut fields = vec![
         ("hole", string(&file.hole)),
-        ("chains", array(work.chains.iter().map(chain))),
+        ("chains", array(work.chains.iter().map(chain_json))),
         ("manipulability", float(work.manipulability)),
         (
             "objective",
@@ -419,8 +383,46 @@ fn work_json(file: &File, work: &Work) -> Vec<(&'static str, String)> {
     // As with tools: a sheet that picks no list is told as ever.
     fields.extend(goals_by(file, work).map(|word| ("goals", string(word))));
     fields.push(("weights", optional(weights_json(file, work))));
-    fields.push(("filed", array(work.checks.iter().map(check))));
+    fields.push(("filed", array(work.checks.iter().map(check_json))));
     fields
+}
+
+fn chain_json(chain: &ChainWork) -> String {
+    let parts = PARTS.iter().enumerate();
+    let end: Vec<_> = parts
+        .map(|(part, name)| (*name, float(part_of(&chain.end, part))))
+        .collect();
+    let mut fields = vec![
+        ("name", string(&chain.name)),
+        ("links", chain.codes.len().to_string()),
+        ("joints", chain.joints.to_string()),
+        ("end", object(&end)),
+        ("azimuth", optional(chain.direction.azimuth.map(plain))),
+        ("inclination", plain(chain.direction.inclination)),
+    ];
+    // Only where there is one: a sheet without tools is told as ever.
+    if chain.tool.is_some() {
+        let tool: Vec<_> = named_tool(chain)
+            .map(|(name, v)| (name, float(v)))
+            .collect();
+        fields.push(("tool", object(&tool)));
+    }
+    object(&fields)
+}
+
+fn check_json(check: &Check) -> String {
+    let (verdict, came) = match &check.verdict {
+        Verdict::Agrees => ("agrees", None),
+        Verdict::Differs(came) => ("differs", Some(string(came))),
+        Verdict::NotChecked => ("not checked", None),
+    };
+    object(&[
+        ("figure", string(&check.filed.name)),
+        ("line", check.filed.line.to_string()),
+        ("verdict", string(verdict)),
+        ("filed", string(&figure(check))),
+        ("came_out", optional(came)),
+    ])
 }
 
 fn weights_json(file: &File, work: &Work) -> Option<String> {

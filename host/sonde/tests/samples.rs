@@ -410,6 +410,7 @@ fn a_folder_is_summed_up() {
 
 #[test]
 fn a_drawing_is_written() {
+    let mut boxes = 0;
     for path in sheets("good") {
         let name = path.file_stem().unwrap().to_str().unwrap();
         let file = Path::new(env!("CARGO_TARGET_TMPDIR")).join(format!("{name}.svg"));
@@ -421,9 +422,11 @@ fn a_drawing_is_written() {
         let sheet = fs::read_to_string(&path).unwrap();
         assert_eq!(drawing.contains(">flange, "), sheet.contains("\ntool "));
         // The box of a tolerance.
-        let strict = sheet.contains("\ngoals strict\n");
-        assert!(!strict || !drawing.contains("stroke-dasharray=\"4 3\""));
+        let boxed = drawing.contains("stroke-dasharray=\"4 3\"");
+        assert!(!boxed || !sheet.contains("\ngoals strict\n"));
+        boxes += usize::from(boxed);
     }
+    assert!(boxes > 0);
 }
 
 #[test]

@@ -3,6 +3,8 @@
 // Each file of tests takes what it needs of these.
 #![allow(dead_code)]
 
+#[cfg(feature = "objective")]
+use relaxed_ik::{Given, Record, Slopes};
 use relaxed_ik::{Refusal, Sheet};
 use std::borrow::Borrow;
 
@@ -67,4 +69,27 @@ impl Lists {
         spoil(&mut lists);
         lists
     }
+}
+
+#[cfg(feature = "objective")]
+pub type Answers = [Result<Slopes, Refusal>; 4];
+
+/// What the objective, without slopes, and the three gradients answer, and the record.
+#[cfg(feature = "objective")]
+pub fn answers(given: &Given, joints: &[f64]) -> (Answers, Record) {
+    let alone = |value| Slopes {
+        value,
+        slopes: Vec::new(),
+    };
+    let (one_block, record) = match given.gradient_one_block(joints) {
+        Ok((found, record)) => (Ok(found), record),
+        Err(refusal) => (Err(refusal), Record::new()),
+    };
+    let answers = [
+        given.objective(joints).map(alone),
+        given.gradient(joints),
+        given.gradient_finite_diff(joints),
+        one_block,
+    ];
+    (answers, record)
 }
