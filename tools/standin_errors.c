@@ -1,5 +1,6 @@
 /* standin_errors COUNT SEED: how far the proved sine, cosine, exponential, atan2 and acos are from long double functions, whose own error
- * (below 1e-19 of the value) does not matter here. A range is searched at COUNT random arguments, then around the worst and around notable ones. */
+ * (below 1e-19 of the value) does not matter here. A range is searched at COUNT random arguments, then around the worst and around notable
+ * ones. */
 #include "relaxed_ik.h"
 
 #include <math.h>

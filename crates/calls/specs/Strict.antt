@@ -1,5 +1,5 @@
 -- The two lists of objectives, their goals written out apart from the definition by which code goes, and which of them a call goes by. What an objective costs does not depend on the pick.
-use mathlib.Core.Path.{_≡_, refl, ap, fun-ext, _∙_}
+use mathlib.Core.Path.{_≡_, refl, ap, fun-ext}
 use mathlib.Core.Bool.{Bool, true, false}
 use mathlib.Core.List.{List, [], _∷_, _++_, map}
 use Prim.Native.Nat.{ℕ}

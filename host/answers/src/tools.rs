@@ -6,7 +6,7 @@ use crate::arms::{asked, Call, Counts, Lent, List, TOOL_LISTS};
 use crate::cases::{cut, exact, lent, link, meets, put, turn, Fault, Shape, FAULTS, SHAPES, SMALL};
 use crate::record::{u16_bytes, Record};
 use crate::sizing::widest;
-use crate::weights;
+use crate::weights::{self, Share};
 use draw::Draw;
 use reference::refusals::u16s;
 use reference::sheet;
@@ -15,7 +15,6 @@ use reference::tools::{ends, tools, TOOLS, TOOL_FLOATS};
 use List::{Chain, Codes, Floats, Goals, History, Limits, Sizes, Tool0, Tool1, Tool2, Tool3};
 
 pub type Tool = [f64; TOOL_FLOATS];
-type Share = (Call, usize, usize);
 
 /// The calls that are lent tools, and of the tools and faults below the first one
 /// that each is lent and the step to the next.
