@@ -1,9 +1,12 @@
 -- Sine, cosine, exponential and atan2 of document 01. Each operation rounds once, left to right.
-use mathlib.Core.Path.{_≡_, ap, _∙_}
-use mathlib.Core.Bool.{cond}
+use mathlib.Core.Path.{_≡_, refl, ap, fun-ext, _∙_}
+use mathlib.Core.Bool.{false, cond}
 use Prim.Native.Nat.{ℕ, zero, suc, _+_, _-_, _*_, _≤_, _<_}
+use native.Mathlib.Nat.{mul-le-mul}
 use native.Mathlib.Omega.{arith}
-use lib.Ieee.{Float, nan, binary64, ofBits, neg, lt, ne}
+use lib.Ieee.{Float, nan, binary64, ofInt, ofBits, neg, lt, ne}
+use lib.Ieee.Exact.{HasValue}
+use lib.Ieee.Back.{round-whole}
 use Rattle.root.specs.Root.{rootOf}
 use Rattle.standins.specs.Num.{_⊕_, _⊖_, _⊗_, _⊘_, nought, one, whole}
 use Rattle.standins.specs.declared.series.BothSeries.{BothSeries}
@@ -16,12 +19,17 @@ downFrom f (suc n) s = downFrom f n (f (suc n) s)
 
 -- ---- sine and cosine
 
--- the divisor of the n-th term
-unfoldable pub sineDivisor : ℕ → Float
-sineDivisor n = whole (2 * n * (2 * n + 1))
+-- k·(k+1), the divisor of both series: k is even in the sine, odd in the cosine
+abbrev pub divisorOf : ℕ → Float
+divisorOf k = whole (k * (k + 1))
 
+-- the sine's, of the n-th term: 2n·(2n+1)
+unfoldable pub sineDivisor : ℕ → Float
+sineDivisor n = divisorOf (2 * n)
+
+-- the cosine's, of the n-th term: (2n-1)·2n
 unfoldable pub cosineDivisor : ℕ → Float
-cosineDivisor n = whole ((2 * n - 1) * (2 * n))
+cosineDivisor n = divisorOf (2 * n - 1)
 
 -- one term more: 1 - s·q/d
 unfoldable pub termOf : (ℕ → Float) → Float → ℕ → Float → Float
@@ -93,6 +101,30 @@ quarterTurn = ofBits binary64 0x3ff9_21fb_5444_2d18
 -- r is the smaller over the larger; if n > w, a quarter turn minus its angle
 unfoldable pub atan2Of : Float → Float → Float
 atan2Of n w = cond (lt w n) (quarterTurn ⊖ smallAngleOf (w ⊘ n)) (smallAngleOf (n ⊘ w))
+
+-- ---- laws: the divisors
+
+-- at most 32·33, that of the sine's 16th term
+pub divisor-most : (k : ℕ) → k ≤ 32 → k * (k + 1) ≤ 1056
+divisor-most k h = let l : k + 1 ≤ 33 = omega arith in mul-le-mul h l
+
+-- none is rounded: the float is k·(k+1) itself
+pub divisor-exact : (k : ℕ) → k ≤ 32 → HasValue (divisorOf k) false (k * (k + 1)) 1
+unfolding ofInt
+divisor-exact k h = round-whole binary64 false (k * (k + 1)) (omega (arith, divisor-most k h))
+
+-- sine and cosine are the series of document 01's two products
+pub sine-stated : (a : Float) → sineOf a ≡ a ⊗ seriesOf (λ n. whole (2 * n * (2 * n + 1))) (a ⊗ a)
+unfolding sineOf sineDivisor
+sine-stated a = refl
+
+pub cosine-stated : (a : Float) → cosineOf a ≡ seriesOf (λ n. whole ((2 * n - 1) * (2 * n))) (a ⊗ a)
+unfolding cosineOf cosineDivisor
+cosine-stated a = ap (λ (d : ℕ → Float). seriesOf d (a ⊗ a)) (fun-ext (λ n. ap whole (product n)))
+  where
+    product : (n : ℕ) → (2 * n - 1) * (2 * n - 1 + 1) ≡ (2 * n - 1) * (2 * n)
+    product zero = refl
+    product (suc n) = let k : 2 * suc n - 1 + 1 ≡ 2 * suc n = omega arith in ap (λ (m : ℕ). (2 * suc n - 1) * m) k
 
 -- ---- laws: a loop that counts down
 

@@ -1,46 +1,15 @@
 // Sine, cosine, the exponential and the arc tangent: each a series worked out from its last term down, one rounding for each operation.
 ghost use mathlib.Core.Path.{_≡_};
-ghost use Rattle.standins.specs.Series.{sineOf, cosineOf, sineCosineOf, bothSeriesOf, expSeriesOf, squarings, expOf, halvedOf, arcSeriesOf, smallAngleOf, atan2Of};
+ghost use Prim.Native.Nat.{_≤_};
+ghost use Rattle.standins.specs.Series.{divisorOf, sineOf, cosineOf, sineCosineOf, bothSeriesOf, expSeriesOf, squarings, expOf, halvedOf, arcSeriesOf, smallAngleOf, atan2Of};
 
-// 2n·(2n+1), for n from 1
-const SINE_DIVISORS: [f64; 16] = [
-    6.0,
-    20.0,
-    42.0,
-    72.0,
-    110.0,
-    156.0,
-    210.0,
-    272.0,
-    342.0,
-    420.0,
-    506.0,
-    600.0,
-    702.0,
-    812.0,
-    930.0,
-    1056.0,
-];
-
-// (2n-1)·2n, for n from 1
-const COSINE_DIVISORS: [f64; 16] = [
-    2.0,
-    12.0,
-    30.0,
-    56.0,
-    90.0,
-    132.0,
-    182.0,
-    240.0,
-    306.0,
-    380.0,
-    462.0,
-    552.0,
-    650.0,
-    756.0,
-    870.0,
-    992.0,
-];
+// k·(k+1), the divisor of both series: k is even in the sine, odd in the cosine.
+fn divisor(k: usize) -> f64
+    requires { ⌜ k ≤ 32 ⌝ }
+    ensures { λ r. ⌜ r ≡ divisorOf k ⌝ }
+{
+    (k * (k + 1)) as f64
+}
 
 // An angle, and the series of the sine and of the cosine of its square.
 struct BothSeries {
@@ -54,15 +23,12 @@ fn both_series(a: f64) -> BothSeries
     ensures { λ r. ⌜ r ≡ bothSeriesOf a ⌝ }
 {
     let q = a * a;
-    // Copied once: in the loop each read would copy its table.
-    let sines = SINE_DIVISORS;
-    let cosines = COSINE_DIVISORS;
     let mut s = 1.0;
     let mut c = 1.0;
     let mut n: usize = 16;
     while n > 0 {
-        s = 1.0 - s * q / sines[n - 1];
-        c = 1.0 - c * q / cosines[n - 1];
+        s = 1.0 - s * q / divisor(2 * n);
+        c = 1.0 - c * q / divisor(2 * n - 1);
         n -= 1;
     }
     BothSeries {
