@@ -5,8 +5,8 @@
  * first; on x86-64 that is how uint16_t and double lie in memory, so an array of them can be lent as it is.
  *
  *   sizes      u16s: the number of chains, then the links of each chain
- *   codes      a u16 for each link: 0 fixed; 10, 20, 30 plus axis for revolute, continuous, prismatic; axis 0 none, 1 to 3 x, y, z, 4 to 6
- *              their negatives. A link that is not fixed has a joint
+ *   codes      a u16 for each link: 0 fixed; 10, 20, 30, 40 plus axis for revolute, continuous, prismatic, telescoping; axis 0 none, 1 to 3
+ *              x, y, z, 4 to 6 their negatives. A link that is not fixed has a joint
  *   floats     7 for each link: displacement x, y, z, offset w, i, j, k
  *   limits     2 for each joint: lower, upper; -999 and 999 for a joint that is free
  *   goals      13 for each chain: position, rotation w first, six tolerances (three of position, three of rotation)
@@ -18,6 +18,10 @@
  *
  * Lists named const are only read. Of the others the front is written; a longer list keeps its tail, and its length must be a whole number
  * of elements all the same.
+ *
+ * Slides. A prismatic joint moves its link along the base's axis, whatever the arm has turned before it; without axis its displacement counts
+ * for nothing either. A telescoping joint is URDF's prismatic one: it moves along its own axis, as the arm and the link's own offset have
+ * turned it; without axis the displacement counts and the joint moves nothing.
  *
  * Weights. Each kind of objective counts by its weight, within 0..1000. A call that is lent no byte of weights takes the built-in ones: 50,
  * 10, 0.1, 0.7, 0.5, 0.3, 1, 0.01. relaxed_ik_set_weights looks at a list before it is put to use; there an empty list is refused too.

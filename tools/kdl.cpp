@@ -1,8 +1,9 @@
 /* kdl FILE CASES SEED: forward kinematics of the proved library beside Orocos KDL's, on the arms of a file (tools/kdl_arms.txt).
  *
- * KDL gets each row of the file through its own Frame::DH or DH_Craig1989, the library a sheet worked out here. With F the row's frame and R
- * the turn of a joint about z, an arm is F0 R1 F1 R2 F2 .. Rn Fn; KDL's segment is a joint and the frame after it, the library's link a frame
- * and the joint after it. So the library's pose after link i is KDL's after segment i, turned by joint i + 1. */
+ * KDL gets each row of the file through its own Frame::DH or DH_Craig1989, the library a sheet worked out here. With F the row's frame and J
+ * the motion of a joint, a turn about z or a slide along an axis of its own, an arm is F0 J1 F1 J2 F2 .. Jn Fn; KDL's segment is a joint and
+ * the frame after it, the library's link a frame and the joint after it. So the library's pose after link i is KDL's after segment i, moved by
+ * joint i + 1. */
 #include "relaxed_ik.h"
 
 #include <kdl/chain.hpp>
@@ -35,13 +36,36 @@ struct Row {
     double a, alpha, d;
 };
 
+/* A joint's motion, as KDL has it and by the library's code. */
+struct Motion {
+    const char *axis;
+    KDL::Joint::JointType type;
+    double scale;
+    uint16_t code;
+};
+
+const Motion TURN = {"z", KDL::Joint::RotZ, 1, 13};
+const Motion SLIDES[] = {{"x", KDL::Joint::TransX, 1, 41}, {"y", KDL::Joint::TransY, 1, 42}, {"z", KDL::Joint::TransZ, 1, 43},
+    {"-x", KDL::Joint::TransX, -1, 44}, {"-y", KDL::Joint::TransY, -1, 45}, {"-z", KDL::Joint::TransZ, -1, 46}};
+
 struct Arm {
     std::string name;
     bool modified;
     std::vector<Row> rows; /* one a joint, then the tool's if there is one */
+    std::vector<Motion> motions;
     std::vector<double> limits;
-    size_t joints() const { return limits.size() / 2; }
+    size_t joints() const { return motions.size(); }
 };
+
+/* The motion that a line's first words name, if they do. */
+const Motion *motion(const std::string &kind, std::istringstream &words) {
+    if (kind == "joint") return &TURN;
+    std::string axis;
+    if (kind != "slide" || !(words >> axis)) return nullptr;
+    for (const Motion &slide : SLIDES)
+        if (axis == slide.axis) return &slide;
+    return nullptr;
+}
 
 std::vector<Arm> read(const char *path) {
     std::ifstream file(path);
@@ -58,14 +82,16 @@ std::vector<Arm> read(const char *path) {
         if (kind == "arm") {
             std::string name, convention;
             good = static_cast<bool>(words >> name >> convention) && (convention == "standard" || convention == "modified");
-            arms.push_back({name, convention == "modified", {}, {}});
-        } else if (!arms.empty() && kind == "joint" && arms.back().rows.size() == arms.back().joints()) {
-            good = static_cast<bool>(words >> row.a >> row.alpha >> row.d >> lower >> upper) && lower < upper;
-            arms.back().rows.push_back(row);
-            arms.back().limits.insert(arms.back().limits.end(), {lower, upper});
+            arms.push_back({name, convention == "modified", {}, {}, {}});
         } else if (!arms.empty() && kind == "tool") {
             good = static_cast<bool>(words >> row.a >> row.alpha >> row.d);
             arms.back().rows.push_back(row);
+        } else if (!arms.empty() && arms.back().rows.size() == arms.back().joints()) {
+            const Motion *moves = motion(kind, words);
+            good = moves && words >> row.a >> row.alpha >> row.d >> lower >> upper && lower < upper;
+            arms.back().rows.push_back(row);
+            if (good) arms.back().motions.push_back(*moves);
+            arms.back().limits.insert(arms.back().limits.end(), {lower, upper});
         }
         if (!good || words >> rest) stop(std::string(path) + " line " + std::to_string(number) + " is not understood: " + line);
     }
@@ -89,7 +115,8 @@ KDL::Chain chain(const Arm &arm) {
         const Row &r = all[i];
         const KDL::Frame frame =
             arm.modified ? KDL::Frame::DH_Craig1989(r.a, r.alpha, r.d, 0) : KDL::Frame::DH(r.a, r.alpha, r.d, 0);
-        chain.addSegment(KDL::Segment(i == 0 ? KDL::Joint(KDL::Joint::Fixed) : KDL::Joint(KDL::Joint::RotZ), frame));
+        const KDL::Joint joint = i == 0 ? KDL::Joint(KDL::Joint::Fixed) : KDL::Joint(arm.motions[i - 1].type, arm.motions[i - 1].scale);
+        chain.addSegment(KDL::Segment(joint, frame));
     }
     return chain;
 }
@@ -109,7 +136,7 @@ Sheet sheet(const Arm &arm) {
         const double y = arm.modified ? -r.d * std::sin(r.alpha) : 0, z = arm.modified ? r.d * std::cos(r.alpha) : r.d;
         const double w = std::cos(r.alpha / 2), x = std::sin(r.alpha / 2);
         sheet.floats.insert(sheet.floats.end(), {r.a, y, z, w, x, 0, 0});
-        sheet.codes.push_back(i < arm.joints() ? 13 : 0); /* revolute about z; the last link is fixed */
+        sheet.codes.push_back(i < arm.joints() ? arm.motions[i].code : 0); /* the last link is fixed */
     }
     sheet.sizes = {1, static_cast<uint16_t>(sheet.codes.size())};
     sheet.limits = arm.limits;
@@ -142,16 +169,16 @@ public:
         proved(q);
         kdl(q);
         for (size_t i = 0; i < segments.size(); i++) {
-            const KDL::Rotation turned = i < q.size() ? segments[i].M * KDL::Rotation::RotZ(q[i]) : segments[i].M;
+            const KDL::Frame moved = i < q.size() ? segments[i] * tree.getSegment(i + 1).getJoint().pose(q[i]) : segments[i];
             double x, y, z, w, same = 0, opposite = 0;
-            turned.GetQuaternion(x, y, z, w);
+            moved.M.GetQuaternion(x, y, z, w);
             const double theirs[4] = {w, x, y, z}, *ours = &rotations[4 * (i + 1)];
             for (int k = 0; k < 4; k++) {
                 same = std::max(same, std::fabs(ours[k] - theirs[k]));
                 opposite = std::max(opposite, std::fabs(ours[k] + theirs[k]));
             }
             rotation = std::max(rotation, std::min(same, opposite));
-            for (int k = 0; k < 3; k++) position = std::max(position, std::fabs(positions[3 * (i + 1) + k] - segments[i].p(k)));
+            for (int k = 0; k < 3; k++) position = std::max(position, std::fabs(positions[3 * (i + 1) + k] - moved.p(k)));
         }
     }
 

@@ -1,4 +1,4 @@
--- The cases that document 01 marks P, and some of its refusals, each computed from the definitions; what sizing answers, which weights and tools are taken and what a strict goal costs among them.
+-- The cases that document 01 marks P, and some of its refusals, each computed from the definitions; what sizing answers, which weights and tools are taken, what a strict goal costs and where a telescoping joint moves among them.
 use mathlib.Core.Path.{_≡_, refl}
 use mathlib.Core.Bool.{true, false}
 use mathlib.Core.List.{List, [], _∷_, _++_, map}
@@ -27,7 +27,7 @@ use Rattle.sheet.specs.Read.{kindAt}
 use Rattle.sheet.specs.Tool.{hasTool}
 use Rattle.sheet.specs.Chain.{firstIn, endIn, total, chainStart, jointsOf, jointOf, joints, chainLength}
 use Rattle.task.specs.declared.picks.Picks.{Picks}
-use Rattle.spacetime.specs.Link.{isNone, offsetOf, signedBy, alongOf, turnOf, jointTurn, aboutOf, turnedBy, carriedOf, slideOf, slidOf, movedOf, linkOf}
+use Rattle.spacetime.specs.Link.{isNone, offsetOf, signedBy, alongOf, turnOf, jointTurn, aboutOf, turnedBy, carriedOf, slidOf, ownAxisOf, telescopedOf, movedOf, linkOf}
 use Rattle.spacetime.specs.Floats.{vecAt, quatAt, flatVec, flatQuat, flat}
 use Rattle.spacetime.specs.Walk.{valueOf, afterLink, startOf, beforeOf, poseOf}
 use Rattle.spacetime.specs.Tool.{tipOf}
@@ -110,6 +110,10 @@ half-turn = poseOf pair (30 ∷ 30 ∷ []) (link (vec nought nought nought) (qua
 abbrev quarter : Float
 quarter = ofBits binary64 0x3fd0_0000_0000_0000
 
+-- the pose after a link up 1 of that code, its joint at v, on a base turned half round x
+abbrev on-turned-base : ℕ → Float → Pose
+on-turned-base code v = poseOf pair (40 ∷ code ∷ []) (link (vec nought nought nought) (quat nought one nought nought) ++ up) (nought ∷ v ∷ []) 1
+
 -- a robot of one chain of four links, the first and the last fixed
 abbrev four : List ℕ
 four = 4 ∷ []
@@ -137,6 +141,28 @@ pub record Cases : Type 0 where
   pub sliding-back :
       poseOf pair (30 ∷ 31 ∷ []) (link (vec nought nought nought) (quat nought nought nought one) ++ link (vec one nought nought) (quat one nought nought nought)) (nought ∷ half ∷ []) 1 .position .x
       ≡ neg half
+  -- telescoping none then telescoping z, both up 1, joints 0.5, 0.25: z = 0, 1, 2.25, the first displacement added and no move
+  pub telescoping : positionsOf pair (poseOf pair (40 ∷ 43 ∷ []) (up ++ up) (half ∷ quarter ∷ [])) ≡ high nought ++ (high one ++ high (ofBits binary64 0x4002_0000_0000_0000))
+  -- a base turned half round x, then telescoping z, up 1, joint 0.25: z = -1.25; prismatic z in its place: z = -0.75
+  pub telescoping-turned : on-turned-base 43 quarter .position .z ≡ neg (ofBits binary64 0x3ff4_0000_0000_0000)
+  pub sliding-unturned : on-turned-base 33 quarter .position .z ≡ neg (ofBits binary64 0x3fe8_0000_0000_0000)
+  -- document 01's case with telescoping x in the place of prismatic x: last x = -1.5
+  pub telescoping-back :
+      poseOf pair (30 ∷ 41 ∷ []) (link (vec nought nought nought) (quat nought nought nought one) ++ link (vec one nought nought) (quat one nought nought nought)) (nought ∷ half ∷ []) 1 .position .x
+      ≡ neg (ofBits binary64 0x3ff8_0000_0000_0000)
+  -- its own offset turns its axis: up 1, half round x, telescoping -z, joint 0.25: z = 0, 1, 2.25
+  pub telescoping-offset : positionsOf pair (poseOf pair (40 ∷ 46 ∷ []) (up ++ link (vec nought nought one) (quat nought one nought nought)) (half ∷ quarter ∷ []))
+      ≡ high nought ++ (high one ++ high (ofBits binary64 0x4002_0000_0000_0000))
+  -- codes 40 and 46 are taken, with two joints; 47 is refused; sizing is that of a revolute and a prismatic joint
+  pub telescoping-taken : loadRefusal (1 ∷ 2 ∷ []) (40 ∷ 46 ∷ []) (up ++ up) (free ++ free) ≡ 0
+  pub telescoping-unlisted : loadRefusal (1 ∷ 2 ∷ []) (40 ∷ 47 ∷ []) (up ++ up) (free ++ free) ≡ 3
+  pub telescoping-sized : sizingOf tolerances (1 ∷ 2 ∷ []) (40 ∷ 46 ∷ []) (up ++ up) ≡ sizingOf tolerances (1 ∷ 2 ∷ []) (13 ∷ 33 ∷ []) (up ++ up)
+  -- the record has a telescoping joint's copy as it has any other's
+  pub telescoping-links : recordLinks four (0 ∷ 40 ∷ 43 ∷ 0 ∷ []) ≡ recordLinks four between-fixed
+  pub telescoping-joints : recordJoints four (0 ∷ 40 ∷ 43 ∷ 0 ∷ []) ≡ recordJoints four between-fixed
+  -- joint 8 of a telescoping link is taken, the next float above it is not
+  pub telescoping-joint : blockRefusal (40 ∷ 46 ∷ []) (eight ∷ eight ∷ []) ≡ 0
+  pub telescoping-refused : blockRefusal (40 ∷ 46 ∷ []) (eight ∷ ofBits binary64 0x4020_0000_0000_0001 ∷ []) ≡ 7
   -- reset a, update b, update c: c, b, a, a
   pub history : (a b c : List Float) (n : ℕ) → updateOf (updateOf (resetOf a n) b) c ≡ record { joints = n; xopt = c; «prev_state» = b; «prev_state2» = a; «prev_state3» = a }
   -- 7 joints: 32 objectives; chains of 6 and 3: 36
@@ -226,7 +252,7 @@ poses-walked gs x = refl
 
 -- All of them, by computing both sides.
 pub cases : Cases
-unfolding recordJoints recordLinks recordOf againOf jointEntry linkEntry againAt againBelow entriesOf endIn objectives goalObjectives limitObjective motionObjectives pairObjective allPairs chainPairs pairsOf pairsFrom grooveLoss swampLoss scaledOf boundsPenalty powerOf bOf power20Of squarings expOf expSeriesOf expTermOf positionsOf rotationsOf chainPositions chainRotations positionsFrom rotationsFrom positionAt rotationAt runs poseOf beforeOf startOf afterLink valueOf linkOf isNone offsetOf signedBy alongOf turnOf jointTurn aboutOf turnedBy carriedOf slideOf slidOf movedOf vecAt quatAt flatVec flatQuat firstIn total chainStart hasJoint jointsOf jointOf joints kindAt kindOf originOf zeroOf identityOf productOf axisOf twiceOf rotateOf quatZOf sineOf cosineOf seriesOf termOf sineDivisor cosineDivisor downFrom rootOf distanceOf pointOf closestOf endedOf innerOf addOf subOf scaleOf dotOf crossOf normOf cutOf blockRefusal jointFits valueFits linkValueFits blockFits badBlock every between within withinAt squaresOf nearOne unitAt freeOf rangedPair pairFits limitsFit badLimits linkFits badFloats loadRefusal lowest lowestFrom badSizes linksFit badLengths badCodes listedAt listedCode listedKind badJoints twoJoints laterFits chainLength weightsRefusal badWeights weightFitsAt weightFits tipOf hasTool sevenFit toolRefusal badTool toolsRefusal badTools toolFits weightOf kindNumber goalWidth posGoalsLoss quatGoalsLoss matchEEPosGoals matchEEQuatGoals evaluateOf strictLoss minOf negativeOf distanceFrom angleFrom angleBetweenQuaternion quaternionDisp quaternionLog fromQuaternion overQuat quatNorm acosOf acuteOf oppositeOf inverseOf absOf atan2Of smallAngleOf halvedOf arcSeriesOf arcTermOf add sub mul div neg eq ne lt le ofInt ofBits sizingOf plannedIf planOf sizingRefusal positionsLength rotationsLength chainLengths listed
+unfolding recordJoints recordLinks recordOf againOf jointEntry linkEntry againAt againBelow entriesOf endIn objectives goalObjectives limitObjective motionObjectives pairObjective allPairs chainPairs pairsOf pairsFrom grooveLoss swampLoss scaledOf boundsPenalty powerOf bOf power20Of squarings expOf expSeriesOf expTermOf positionsOf rotationsOf chainPositions chainRotations positionsFrom rotationsFrom positionAt rotationAt runs poseOf beforeOf startOf afterLink valueOf linkOf isNone offsetOf signedBy alongOf turnOf jointTurn aboutOf turnedBy carriedOf ownAxisOf telescopedOf slidOf movedOf vecAt quatAt flatVec flatQuat firstIn total chainStart hasJoint jointsOf jointOf joints kindAt kindOf originOf zeroOf identityOf productOf axisOf twiceOf rotateOf quatZOf sineOf cosineOf seriesOf termOf sineDivisor cosineDivisor downFrom rootOf distanceOf pointOf closestOf endedOf innerOf addOf subOf scaleOf dotOf crossOf normOf cutOf blockRefusal jointFits valueFits linkValueFits blockFits badBlock every between within withinAt squaresOf nearOne unitAt freeOf rangedPair pairFits limitsFit badLimits linkFits badFloats loadRefusal lowest lowestFrom badSizes linksFit badLengths badCodes listedAt listedCode listedKind badJoints twoJoints laterFits chainLength weightsRefusal badWeights weightFitsAt weightFits tipOf hasTool sevenFit toolRefusal badTool toolsRefusal badTools toolFits weightOf kindNumber goalWidth posGoalsLoss quatGoalsLoss matchEEPosGoals matchEEQuatGoals evaluateOf strictLoss minOf negativeOf distanceFrom angleFrom angleBetweenQuaternion quaternionDisp quaternionLog fromQuaternion overQuat quatNorm acosOf acuteOf oppositeOf inverseOf absOf atan2Of smallAngleOf halvedOf arcSeriesOf arcTermOf add sub mul div neg eq ne lt le ofInt ofBits sizingOf plannedIf planOf sizingRefusal positionsLength rotationsLength chainLengths listed
 cases = record {
   groove-centre = refl;
   swamp-centre = refl;
@@ -234,6 +260,18 @@ cases = record {
   turning-rotations = refl;
   sliding = refl;
   sliding-back = refl;
+  telescoping = refl;
+  telescoping-turned = refl;
+  sliding-unturned = refl;
+  telescoping-back = refl;
+  telescoping-offset = refl;
+  telescoping-taken = refl;
+  telescoping-unlisted = refl;
+  telescoping-sized = refl;
+  telescoping-links = refl;
+  telescoping-joints = refl;
+  telescoping-joint = refl;
+  telescoping-refused = refl;
   history = λ a b c n. refl;
   seven-joints = refl;
   six-and-three = refl;

@@ -17,18 +17,17 @@ use Rattle.geometry.specs.declared.vector.Vec3.{Vec3}
 use Rattle.geometry.specs.declared.quaternion.Quat.{Quat}
 use Rattle.geometry.specs.declared.pose.Pose.{Pose}
 use Rattle.geometry.specs.Vector.{zeroOf, subOf, crossOf}
-use Rattle.geometry.specs.Quaternion.{rotateOf}
 use Rattle.geometry.specs.Matrix.{gramOf, determinantOf}
 use Rattle.lists.specs.Splice.{splice, splice-splice, part-splice}
 use Rattle.lists.specs.Runs.{runs, runs-none, runs-more}
 use Rattle.lists.specs.Listed.{listed, length-listed}
 use Rattle.sheet.specs.declared.code.Kind.{Kind}
-use Rattle.sheet.specs.declared.code.Kind.the-variants.{Fixed, Turning, Sliding, Unlisted}
+use Rattle.sheet.specs.declared.code.Kind.the-variants.{Fixed, Turning, Sliding, Telescoping, Unlisted}
 use Rattle.sheet.specs.Code.{hasJoint, axisIn, kindOf}
 use Rattle.sheet.specs.Read.{kindAt}
 use Rattle.sheet.specs.Chain.{total, chainStart, chain-start-next, chain-start-mono, chain-start-total, jointsOf, jointOf, joints, joint-more, joint-mono, joint-last, below-or, jointsIn}
 use Rattle.manipulability.specs.declared.jacobian.Fill.{Fill}
-use Rattle.spacetime.specs.Link.{vecIf, alongOf}
+use Rattle.spacetime.specs.Link.{vecIf, ownAxisOf}
 use Rattle.spacetime.specs.Floats.{flatVec}
 
 -- ---- the axes of the chain's joints
@@ -67,7 +66,7 @@ startFilling n = record { column = 0; axis = zeroOf; matrix = listed unitOf (6 *
 
 -- the axis as the rotation q turns it; axis none keeps the vector v of before
 unfoldable pub axisVector : ℕ → Quat → Vec3 → Vec3
-axisVector a q v = vecIf (eqb a 0) v (rotateOf q (alongOf a one))
+axisVector a q v = vecIf (eqb a 0) v (ownAxisOf q a)
 
 -- a column: v cross (end - position), then v
 unfoldable pub columnOf : Vec3 → Vec3 → Vec3 → List Float
@@ -83,6 +82,7 @@ abbrev pub isTurning : Kind → Bool
 isTurning Fixed = false
 isTurning (Turning a) = true
 isTurning (Sliding a) = false
+isTurning (Telescoping a) = false
 isTurning Unlisted = false
 
 unfoldable pub turnsAt : List ℕ → ℕ → Bool

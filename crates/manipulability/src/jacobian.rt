@@ -2,7 +2,6 @@
 use crate::view;
 use geometry::matrix;
 use geometry::pose::Pose;
-use geometry::quaternion;
 use geometry::quaternion::Quat;
 use geometry::vector;
 use geometry::vector::Vec3;
@@ -82,7 +81,7 @@ fn axis_vector(axis: u16, q: Quat, old: Vec3) -> Vec3
     if axis == 0 {
         return old;
     }
-    quaternion::rotate(q, arm::along(axis, 1.0))
+    arm::own_axis(q, axis)
 }
 
 fn put_column(j: &mut [f64], at: usize, v: Vec3, end: Vec3, position: Vec3)
@@ -114,6 +113,7 @@ fn turns(codes: &[u16], link: usize) -> bool
     match kind {
         Kind::Turning(_) => true,
         Kind::Sliding(_) => false,
+        Kind::Telescoping(_) => false,
         Kind::Fixed => false,
         Kind::Unlisted => false,
     }

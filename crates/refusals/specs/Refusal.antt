@@ -7,7 +7,7 @@ use lib.Ieee.{Float, binary64, ofBits, le, nan}
 use lib.ListN.{length, getD, drop}
 use Rattle.standins.specs.Num.{_⊖_, nought}
 use Rattle.sheet.specs.declared.code.Kind.{Kind}
-use Rattle.sheet.specs.declared.code.Kind.the-variants.{Fixed, Turning, Sliding, Unlisted}
+use Rattle.sheet.specs.declared.code.Kind.the-variants.{Fixed, Turning, Sliding, Telescoping, Unlisted}
 use Rattle.sheet.specs.Code.{hasJoint, kindOf}
 use Rattle.sheet.specs.Chain.{total, jointOf, joints, chainLength}
 use Rattle.sheet.specs.Tool.{hasTool}
@@ -44,6 +44,7 @@ unfoldable pub listedKind : Kind → Bool
 listedKind Fixed = true
 listedKind (Turning a) = true
 listedKind (Sliding a) = true
+listedKind (Telescoping a) = true
 listedKind Unlisted = false
 
 -- code k is listed

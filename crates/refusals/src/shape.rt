@@ -69,6 +69,7 @@ fn is_listed(k: u16) -> bool
         Kind::Fixed => true,
         Kind::Turning(_) => true,
         Kind::Sliding(_) => true,
+        Kind::Telescoping(_) => true,
         Kind::Unlisted => false,
     }
 }

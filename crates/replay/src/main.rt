@@ -11,7 +11,7 @@ mod tally;
 use libc::STDOUT_FILENO;
 
 // The room for the list, in bytes.
-const ROOM: usize = 516096;
+const ROOM: usize = 655360;
 
 fn replay(s: &[u8]) {
     let found = damage::damage(s);

@@ -12,7 +12,7 @@ mod tally;
 use libc::STDOUT_FILENO;
 
 // The room for the list, in bytes.
-const ROOM: usize = 471040;
+const ROOM: usize = 655360;
 
 fn play(s: &[u8]) {
     let found = damage::damage(s);

@@ -6,3 +6,5 @@ pub mod Tool
 pub mod Frames
 pub mod Appended
 pub mod Apart
+pub mod Urdf
+pub mod SamePoint

@@ -1,16 +1,16 @@
--- The link step of arm.rs: the pose after a link, from the pose before it.
+-- The link step of arm.rs, and of document 02's telescoping links: the pose after a link, from the pose before it.
 use mathlib.Core.Bool.{Bool, true, false, cond, _&&_}
 use Prim.Native.Nat.{ℕ, _%_}
 use lib.Dec.{eqb, ltb}
 use lib.Ieee.{Float, neg, eq}
-use Rattle.standins.specs.Num.{nought}
+use Rattle.standins.specs.Num.{nought, one}
 use Rattle.geometry.specs.declared.vector.Vec3.{Vec3}
 use Rattle.geometry.specs.declared.quaternion.Quat.{Quat}
 use Rattle.geometry.specs.declared.pose.Pose.{Pose}
-use Rattle.geometry.specs.Vector.{addOf}
+use Rattle.geometry.specs.Vector.{addOf, scaleOf}
 use Rattle.geometry.specs.Quaternion.{identityOf, productOf, rotateOf, quatXOf, quatYOf, quatZOf}
 use Rattle.sheet.specs.declared.code.Kind.{Kind}
-use Rattle.sheet.specs.declared.code.Kind.the-variants.{Fixed, Turning, Sliding, Unlisted}
+use Rattle.sheet.specs.declared.code.Kind.the-variants.{Fixed, Turning, Sliding, Telescoping, Unlisted}
 
 abbrev pub vecIf : Bool → Vec3 → Vec3 → Vec3
 vecIf true a b = a
@@ -52,6 +52,7 @@ jointTurn Fixed v = identityOf
 jointTurn Unlisted v = identityOf
 jointTurn (Turning a) v = turnOf a v
 jointTurn (Sliding a) v = identityOf
+jointTurn (Telescoping a) v = identityOf
 
 -- axis none does not turn
 unfoldable pub aboutOf : ℕ → Quat → Quat → Quat
@@ -63,25 +64,31 @@ turnedBy Fixed q t = q
 turnedBy Unlisted q t = q
 turnedBy (Turning a) q t = aboutOf a q t
 turnedBy (Sliding a) q t = q
+turnedBy (Telescoping a) q t = q
 
 -- the point moved by the displacement, as the pose turns it
 unfoldable pub carriedOf : Pose → Vec3 → Vec3
 carriedOf p d = addOf (rotateOf (p .rotation) d) (p .position)
 
--- a joint's slide by v along axis a, q being the rotation after its link: a prismatic one moves along the base's axis, unrotated, where URDF's moves along q's
-unfoldable pub slideOf : Quat → ℕ → Float → Vec3
-slideOf q a v = alongOf a v
+-- a prismatic joint's move by v: along the base's axis a, unrotated, from where the displacement carries it; with axis none it stays at the point before
+unfoldable pub slidOf : Vec3 → Vec3 → ℕ → Float → Vec3
+slidOf before carried a v = vecIf (eqb a 0) before (addOf carried (alongOf a v))
 
--- from where the displacement carries it; with axis none it stays at the point before
-unfoldable pub slidOf : Vec3 → Vec3 → Quat → ℕ → Float → Vec3
-slidOf before carried q a v = vecIf (eqb a 0) before (addOf carried (slideOf q a v))
+-- the unit vector of axis a, as the rotation q turns it
+unfoldable pub ownAxisOf : Quat → ℕ → Vec3
+ownAxisOf q a = rotateOf q (alongOf a one)
+
+-- a telescoping joint's move by v: along its own axis, which the rotation q after the link turns; with axis none it moves no further than the displacement carries it
+unfoldable pub telescopedOf : Vec3 → Quat → ℕ → Float → Vec3
+telescopedOf carried q a v = vecIf (eqb a 0) carried (addOf carried (scaleOf (ownAxisOf q a) v))
 
 -- the position after a link of displacement d, q being the rotation after it and v its joint's value
 unfoldable pub movedOf : Kind → Pose → Vec3 → Quat → Float → Vec3
 movedOf Fixed p d q v = carriedOf p d
 movedOf Unlisted p d q v = carriedOf p d
 movedOf (Turning a) p d q v = carriedOf p d
-movedOf (Sliding a) p d q v = slidOf (p .position) (carriedOf p d) q a v
+movedOf (Sliding a) p d q v = slidOf (p .position) (carriedOf p d) a v
+movedOf (Telescoping a) p d q v = telescopedOf (carriedOf p d) q a v
 
 -- the pose after a link of displacement d and offset o, its joint at v
 unfoldable pub linkOf : Kind → Vec3 → Quat → Float → Pose → Pose

@@ -15,7 +15,7 @@ ghost use lib.ListN.{length, getD};
 ghost use Rattle.lists.specs.Splice.{splice};
 ghost use Rattle.sheet.specs.Chain.{jointsOf, joints};
 ghost use Rattle.spacetime.specs.Floats.{quatAt};
-ghost use Rattle.spacetime.specs.Link.{isNone, offsetOf, signedBy, alongOf, turnOf, jointTurn, aboutOf, turnedBy, carriedOf, slideOf, slidOf, movedOf, linkOf};
+ghost use Rattle.spacetime.specs.Link.{isNone, offsetOf, signedBy, alongOf, turnOf, jointTurn, aboutOf, turnedBy, carriedOf, slidOf, ownAxisOf, telescopedOf, movedOf, linkOf};
 ghost use Rattle.spacetime.specs.Walk.{valueOf, afterLink, startOf, Sheet, framesOf};
 ghost use Rattle.spacetime.specs.Turns.{turnsOf, startTurn, afterTurn, rotationsBy, Rotated};
 
@@ -51,7 +51,7 @@ fn signed(axis: u16, v: f64) -> f64
 }
 
 // v along an axis of the base.
-pub fn along(axis: u16, v: f64) -> Vec3
+fn along(axis: u16, v: f64) -> Vec3
     ensures { λ r. ⌜ r ≡ alongOf axis v ⌝ }
 {
     let s = signed(axis, v);
@@ -98,6 +98,7 @@ fn joint_turn(kind: Kind, v: f64) -> Quat
     match kind {
         Kind::Turning(axis) => turn(axis, v),
         Kind::Sliding(_) => quaternion::identity(),
+        Kind::Telescoping(_) => quaternion::identity(),
         Kind::Fixed => quaternion::identity(),
         Kind::Unlisted => quaternion::identity(),
     }
@@ -120,6 +121,7 @@ fn turned(kind: Kind, q: Quat, t: Quat) -> Quat
     match kind {
         Kind::Turning(axis) => about(axis, q, t),
         Kind::Sliding(_) => q,
+        Kind::Telescoping(_) => q,
         Kind::Fixed => q,
         Kind::Unlisted => q,
     }
@@ -133,30 +135,40 @@ fn carried(p: Pose, d: Vec3) -> Vec3
     vector::add(quaternion::rotate(q, d), at)
 }
 
-// A joint's slide by v. `rotation`, after its link, is what a slide along the link's own axis would ask: a prismatic joint goes along the base's.
-fn slide(rotation: Quat, axis: u16, v: f64) -> Vec3
-    ensures { λ r. ⌜ r ≡ slideOf rotation axis v ⌝ }
-{
-    along(axis, v)
-}
-
-fn slid(before: Vec3, carried: Vec3, rotation: Quat, axis: u16, v: f64) -> Vec3
-    ensures { λ r. ⌜ r ≡ slidOf before carried rotation axis v ⌝ }
+fn slid(before: Vec3, carried: Vec3, axis: u16, v: f64) -> Vec3
+    ensures { λ r. ⌜ r ≡ slidOf before carried axis v ⌝ }
 {
     if axis == 0 {
         return before;
     }
-    vector::add(carried, slide(rotation, axis, v))
+    vector::add(carried, along(axis, v))
 }
 
-// The position after a link, asked with the rotation after it. Every kind but a slide with axis none is carried, so that is worked out first, and stands in the code once.
+// An axis, as a rotation turns it.
+pub fn own_axis(rotation: Quat, axis: u16) -> Vec3
+    ensures { λ r. ⌜ r ≡ ownAxisOf rotation axis ⌝ }
+{
+    quaternion::rotate(rotation, along(axis, 1.0))
+}
+
+fn telescoped(carried: Vec3, rotation: Quat, axis: u16, v: f64) -> Vec3
+    ensures { λ r. ⌜ r ≡ telescopedOf carried rotation axis v ⌝ }
+{
+    if axis == 0 {
+        return carried;
+    }
+    vector::add(carried, vector::scale(own_axis(rotation, axis), v))
+}
+
+// The position after a link, asked with the rotation after it. Every kind but a prismatic joint without axis is carried, so that is worked out first, and stands in the code once.
 fn moved(kind: Kind, p: Pose, d: Vec3, rotation: Quat, v: f64) -> Vec3
     ensures { λ r. ⌜ r ≡ movedOf kind p d rotation v ⌝ }
 {
     let c = carried(p, d);
     match kind {
         Kind::Turning(_) => c,
-        Kind::Sliding(axis) => slid(p.position, c, rotation, axis, v),
+        Kind::Sliding(axis) => slid(p.position, c, axis, v),
+        Kind::Telescoping(axis) => telescoped(c, rotation, axis, v),
         Kind::Fixed => c,
         Kind::Unlisted => c,
     }

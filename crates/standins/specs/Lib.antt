@@ -1,4 +1,5 @@
 pub mod Num
+pub mod Exact
 pub mod Series
 pub mod Power
 pub mod Cut

@@ -13,6 +13,7 @@ mod sequences;
 mod sizing;
 mod strict;
 mod strict_sequences;
+mod telescoping;
 mod tool_sequences;
 mod tools;
 mod weight_sequences;
@@ -58,6 +59,7 @@ fn records(kind: Kind) -> Vec<Record> {
             records.extend(weights::all(&mut draw));
             records.extend(tools::all(&mut draw));
             records.extend(strict::all(&mut draw));
+            records.extend(telescoping::all(&mut draw));
             records
         }
         Kind::Sequences => {
@@ -65,6 +67,7 @@ fn records(kind: Kind) -> Vec<Record> {
             records.extend(weight_sequences::all(&mut draw));
             records.extend(tool_sequences::all(&mut draw));
             records.extend(strict_sequences::all(&mut draw));
+            records.extend(strict_sequences::telescoping(&mut draw));
             records
         }
     }
@@ -154,6 +157,21 @@ mod tests {
         (Kind::Sequences, 1592, 431_172, 0xb392_6ca0_3525_5e86),
     ];
 
+    const BEFORE_TELESCOPING: Before = [
+        (Kind::Calls, 1583, 509_889, 0xe80b_2428_ba5f_801a),
+        (Kind::Sequences, 1740, 467_494, 0x5da1_dc08_55bb_ef23),
+    ];
+
+    /// 47 stands for an unlisted code where 40 stood, which change 6 lists.
+    fn with_forty(kind: Kind, record: &mut Record) {
+        if kind == Kind::Calls && record.call == arms::Call::Sizing as u16 {
+            let codes = &mut record.lists[arms::List::Codes as usize];
+            for code in codes.chunks_exact_mut(2).filter(|code| *code == [47, 0]) {
+                code[0] = 40;
+            }
+        }
+    }
+
     fn without_pick(kind: Kind, record: &mut Record) {
         let place = match kind {
             Kind::Calls => strict::place(record),
@@ -181,13 +199,14 @@ mod tests {
         }
     }
 
-    /// The older records without the empty lists that they were given are the older
-    /// file, byte for byte.
+    /// The older records without what they were given are the older file, byte for
+    /// byte.
     #[test]
     fn older_records_keep_their_bytes() {
         type Without = fn(Kind, &mut Record);
         // The latest first.
-        let changes: [(Before, Without); 3] = [
+        let changes: [(Before, Without); 4] = [
+            (BEFORE_TELESCOPING, with_forty),
             (BEFORE_STRICT, without_pick),
             (BEFORE_TOOLS, without_tools),
             (BEFORE_WEIGHTS, without_weights),

@@ -88,7 +88,7 @@ const EDGES: [Fault; 31] = [
     (3, Codes, |l| put_u16(l, Codes, 0, 1)),
     (3, Codes, |l| put_u16(l, Codes, 0, 17)),
     (3, Codes, |l| put_u16(l, Codes, 1, 29)),
-    (3, Codes, |l| put_u16(l, Codes, 1, 40)),
+    (3, Codes, |l| put_u16(l, Codes, 1, 47)),
     (3, Codes, |l| put_u16(l, Codes, 1, 256 + 13)),
     (3, Codes, |l| put_u16(l, Codes, 1, u16::MAX)),
     (4, Codes, |l| put_u16(l, Codes, 0, 0)),

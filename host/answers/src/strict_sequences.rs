@@ -7,6 +7,7 @@ use crate::cases::{lent, link, Shape, SHAPES, SMALL};
 use crate::record::Record;
 use crate::sequences::{near, play_exact, State, Step};
 use crate::strict::PICKS;
+use crate::telescoping;
 use crate::tools::set_chain;
 use crate::weights::{drawn, WRONG};
 use draw::Draw;
@@ -42,8 +43,16 @@ const TWO_CHAINS: &[Change] = &[
     (SetWeights, 0),
 ];
 
-/// With the chain that gets the tool.
-const SEQUENCES: [(&[Change], Shape, u16); 2] = [(ONE_CHAIN, SMALL, 0), (TWO_CHAINS, SHAPES[2], 1)];
+/// Changes, the shape of the arms, and the chain that gets the tool.
+type Sequence = (&'static [Change], Shape, u16);
+
+const SEQUENCES: [Sequence; 2] = [(ONE_CHAIN, SMALL, 0), (TWO_CHAINS, SHAPES[2], 1)];
+
+/// The same changes over arms with telescoping joints.
+const TELESCOPING: [Sequence; 2] = [
+    (ONE_CHAIN, telescoping::SHAPES[0], 0),
+    (TWO_CHAINS, telescoping::SHAPES[2], 1),
+];
 
 /// What a change is lent.
 fn lists((step, number): Change, own: &Lent, chain: u16, draw: &mut Draw) -> Lent {
@@ -64,11 +73,7 @@ fn lists((step, number): Change, own: &Lent, chain: u16, draw: &mut Draw) -> Len
 
 /// A sequence: each change with the calls behind it, under the pick and then, at the
 /// same joints, without one.
-fn sequence(
-    (changes, shape, chain): (&[Change], Shape, u16),
-    draw: &mut Draw,
-    records: &mut Vec<Record>,
-) {
+fn sequence((changes, shape, chain): Sequence, draw: &mut Draw, records: &mut Vec<Record>) {
     let mut state = State::default();
     let mut own = lent(shape, draw);
     let mut picks = PICKS.into_iter().cycle();
@@ -90,12 +95,20 @@ fn sequence(
     ask(Kept, &own);
 }
 
-pub fn all(draw: &mut Draw) -> Vec<Record> {
+fn played(sequences: &[Sequence], draw: &mut Draw) -> Vec<Record> {
     let mut records = Vec::new();
-    for one in SEQUENCES {
+    for &one in sequences {
         sequence(one, draw, &mut records);
     }
     records
+}
+
+pub fn all(draw: &mut Draw) -> Vec<Record> {
+    played(&SEQUENCES, draw)
+}
+
+pub fn telescoping(draw: &mut Draw) -> Vec<Record> {
+    played(&TELESCOPING, draw)
 }
 
 #[cfg(test)]
@@ -108,9 +121,11 @@ mod tests {
     /// lacking the two picks answer apart.
     #[test]
     fn a_pick_changes_answers_and_no_refusal() {
-        let records = all(&mut Draw::new(crate::SEED));
+        let mut draw = Draw::new(crate::SEED);
+        let mut records = all(&mut draw);
+        records.extend(telescoping(&mut draw));
         let mut records = records.iter();
-        for (changes, ..) in SEQUENCES {
+        for (changes, ..) in [SEQUENCES, TELESCOPING].concat() {
             assert_eq!(records.next().map(|record| record.call), Some(0));
             let mut lacking = 20;
             for &(step, number) in changes {

@@ -50,6 +50,7 @@ pub fn all(run: &mut Run, call: Call) {
     if run.edges() {
         if call.read().contains(&List::Sizes) {
             named(run, &mut trial);
+            telescoping(run, &mut trial);
             every_code(run, &mut trial);
         }
         every_fault(run, &mut trial);
@@ -115,8 +116,41 @@ fn named(run: &mut Run, trial: &mut Trial) {
     plain(run, &vec![long; 4], &|_| {});
 }
 
-/// Every two codes before six turning links, so that manipulability is not 0,
-/// at joints of every sign.
+/// A telescoping joint counts as any other, and its range is a sliding one's.
+fn telescoping(run: &mut Run, trial: &mut Trial) {
+    let call = trial.call;
+    let mut check = |run: &mut Run, shape: &Shape, joints: Option<[f64; 2]>| {
+        let mut lists = Lists::plain(shape, &mut run.draw);
+        call.renew(&mut lists, &mut run.draw);
+        if let Some(joints) = joints {
+            lists.set_floats(List::Joints, &joints);
+        }
+        trial.check(run, &lists, &exact(call, &lists));
+    };
+    for chain in [vec![33, 43], vec![46, 10], vec![40, 41]] {
+        for v in [8.0, 8.0f64.next_up(), -8.0, (-8.0f64).next_down()] {
+            for joints in [[v, 0.5], [0.5, v]] {
+                check(run, &vec![chain.clone()], Some(joints));
+            }
+        }
+    }
+    for chain in [vec![43], vec![0, 40, 0], vec![0, 40, 0, 43], vec![43, 43]] {
+        check(run, &vec![chain.clone()], None);
+        check(run, &vec![vec![13; 4], chain], None);
+    }
+    for first in 0..=18 {
+        check(run, &vec![vec![43; first]], None);
+        for second in 0..=17 {
+            check(run, &vec![vec![43; first], vec![40; second]], None);
+        }
+    }
+    let mut long = vec![0; 16];
+    (long[0], long[3], long[7], long[15]) = (11, 42, 40, 46);
+    check(run, &vec![long; 4], None);
+}
+
+/// Every two codes before six turning links or behind them, so that manipulability is
+/// not 0, at joints of every sign.
 fn every_code(run: &mut Run, trial: &mut Trial) {
     let call = trial.call;
     for a in CODES {
@@ -148,11 +182,12 @@ fn every_fault(run: &mut Run, trial: &mut Trial) {
     let call = trial.call;
     let damages = damages(call.read()).into_iter();
     let damages: Vec<Damage> = damages.map(|(_, damage)| damage).collect();
-    let shapes: [Shape; 4] = [
+    let shapes: [Shape; 5] = [
         vec![vec![13, 12]],
         vec![vec![0, 13, 12, 11, 36, 23, 15, 16, 0]],
         vec![vec![13, 32, 0, 10], vec![14, 0, 35, 20, 11]],
         vec![vec![21, 12, 33, 14]; 4],
+        vec![vec![13, 43, 0, 40], vec![44, 0, 35]],
     ];
     for shape in &shapes {
         let base = Lists::of(shape, &mut run.draw);

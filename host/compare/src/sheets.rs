@@ -44,11 +44,14 @@ const LISTS: usize = Strict as usize + 1;
 /// Those of the tools that are lent, by chain.
 pub const TOOL_LISTS: [List; TOOLS] = [Tool0, Tool1, Tool2, Tool3];
 
-/// Fixed, then revolute, continuous and prismatic about every axis.
-pub const CODES: [u16; 22] = [
-    0, 10, 11, 12, 13, 14, 15, 16, 20, 21, 22, 23, 24, 25, 26, 30, 31, 32, 33, 34, 35, 36,
+/// Fixed, then revolute, continuous, prismatic and telescoping about every axis.
+pub const CODES: [u16; 29] = [
+    0, 10, 11, 12, 13, 14, 15, 16, 20, 21, 22, 23, 24, 25, 26, 30, 31, 32, 33, 34, 35, 36, 40, 41,
+    42, 43, 44, 45, 46,
 ];
-const UNLISTED: [u16; 13] = [37, 9, 40, 65535, 1, 6, 7, 17, 19, 27, 29, 39, 256];
+/// How many of them the published arm knows: all but the telescoping ones.
+const PUBLISHED: usize = 22;
+const UNLISTED: [u16; 15] = [37, 9, 47, 65535, 1, 6, 7, 17, 19, 27, 29, 39, 49, 50, 256];
 /// How far links and tools go, but for some.
 const REACHES: [f64; 5] = [10.0, 2.0, 1.0, 0.5, 0.2];
 const IDENTITY: [f64; 4] = [1.0, 0.0, 0.0, 0.0];
@@ -740,16 +743,24 @@ fn chain(draw: &mut Draw, links: usize, joints: usize, style: u64) -> Vec<u16> {
     codes
 }
 
-/// The style says which kinds a sheet has.
+/// The style says which kinds a sheet has. Half of the styles know no telescoping
+/// joint: their sheets are judged by the published walk alone.
 fn joint_code(draw: &mut Draw, style: u64) -> u16 {
     let axis = 1 + draw.below(6) as u16;
     let turning = draw.pick(&[10, 20]);
-    match style % 8 {
+    match style % 16 {
         0..=2 => turning + axis,
         3 => turning + draw.below(7) as u16,
         4 if draw.word() % 4 == 0 => 30 + draw.below(7) as u16,
         4 => turning + axis,
         5 => 30 + draw.below(7) as u16,
+        6 | 7 => draw.pick(&CODES[1..PUBLISHED]),
+        // A mast or two on a turning arm.
+        8..=10 if draw.word() % 3 == 0 => 40 + draw.below(7) as u16,
+        8..=10 => turning + axis,
+        // Hardly anything but masts.
+        11 if draw.word() % 4 == 0 => draw.pick(&CODES[1..]),
+        11 | 12 => 40 + draw.below(7) as u16,
         _ => draw.pick(&CODES[1..]),
     }
 }
@@ -1111,7 +1122,7 @@ mod tests {
     fn drawn_sheets_are_taken_and_differ() {
         let mut draw = Draw::new(2);
         let (mut chains, mut joints) = ([false; 5], [false; 17]);
-        let (mut codes, mut ends) = ([false; 37], [false; 2]);
+        let (mut codes, mut ends) = ([false; 47], [false; 2]);
         let mut edge = false;
         for _ in 0..20_000 {
             let shape = shape(&mut draw);
@@ -1134,6 +1145,27 @@ mod tests {
         assert!(joints[2..].iter().all(|&met| met));
         assert!(CODES.iter().all(|&code| codes[code as usize]));
         assert!(ends == [true; 2] && edge);
+    }
+
+    /// About half of the sheets are the published walk's alone, the others mix all
+    /// kinds, and some have hardly anything but telescoping joints.
+    #[test]
+    fn half_of_the_sheets_telescope() {
+        let mut draw = Draw::new(2);
+        let (mut none, mut mixed, mut most) = (0, 0, 0);
+        for _ in 0..20_000 {
+            let codes = shape(&mut draw).concat();
+            let joints = codes.iter().filter(|&&code| code != 0).count();
+            match codes.iter().filter(|&&code| code >= 40).count() {
+                0 => none += 1,
+                masts if 2 * masts > joints => most += 1,
+                _ => mixed += 1,
+            }
+        }
+        assert!((10_000..12_000).contains(&none), "{none}");
+        assert!(mixed > 4_000 && most > 2_000, "{mixed}, {most}");
+        assert!(CODES[..PUBLISHED].iter().all(|&code| code < 40));
+        assert!(CODES[PUBLISHED..].iter().all(|&code| code >= 40));
     }
 
     #[test]

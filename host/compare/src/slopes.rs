@@ -60,10 +60,12 @@ fn agree(run: &mut Run) {
 }
 
 fn every_sign(run: &mut Run) {
-    let shapes: [Shape; 3] = [
+    let shapes: [Shape; 5] = [
         vec![vec![13, 12]],
         vec![vec![0, 13, 12, 11, 36, 23, 15, 16, 0]],
         vec![vec![21, 12, 33, 14]; 4],
+        vec![vec![13, 42, 0, 11, 46, 23, 40, 15, 16, 43]],
+        vec![vec![41, 12, 33, 44]; 4],
     ];
     for shape in &shapes {
         for v in [8.0, -8.0, 0.0, -0.0, 0.5] {

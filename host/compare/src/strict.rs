@@ -27,11 +27,12 @@ pub fn drawn(draw: &mut Draw) -> u32 {
 /// Every number on a few sheets, with goals that are met, and with rotations that lie
 /// to the goal's where something changes; and with an output too short.
 pub fn edges(run: &mut Run, trial: &mut Trial) {
-    let shapes: [Shape; 4] = [
+    let shapes: [Shape; 5] = [
         vec![vec![13, 12]],
         vec![vec![0, 13, 12, 11, 36, 23, 15, 16, 0]],
         vec![vec![13, 32, 0, 10], vec![14, 0, 35, 20, 11]],
         vec![vec![13, 12]; 4],
+        vec![vec![13, 42, 0, 45]],
     ];
     let aims = trial.call.aims();
     for shape in &shapes {

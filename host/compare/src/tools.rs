@@ -115,10 +115,11 @@ fn lists() -> Vec<Vec<u8>> {
 /// a tool and without, and with an output too short, which comes before.
 pub fn edges(run: &mut Run, trial: &mut Trial) {
     let call = trial.call;
-    let shapes: [Shape; 3] = [
+    let shapes: [Shape; 4] = [
         vec![vec![13, 12]],
         vec![vec![13, 32, 0, 10], vec![14, 0, 35, 20, 11]],
         vec![vec![13, 12]; 4],
+        vec![vec![13, 42], vec![40, 0, 46]],
     ];
     let all = lists();
     let numbers: Vec<u32> = (0..TOOLS as u32).chain(UNNUMBERED).collect();

@@ -245,6 +245,21 @@ mod tests {
         }
     }
 
+    /// Listed codes stay, the telescoping ones among them, and an unlisted one becomes
+    /// any of them.
+    #[test]
+    fn every_code_is_kept_and_reached() {
+        let mended = |code: u16| {
+            let mut chain = vec![code, 13, 12];
+            mend_chain(&mut chain, MOST_JOINTS);
+            chain[0]
+        };
+        assert!(CODES.iter().all(|&code| mended(code) == code));
+        assert!(CODES.contains(&40) && CODES.contains(&46));
+        let reached: Vec<u16> = (47..47 + CODES.len() as u16).map(mended).collect();
+        assert!(CODES.iter().all(|code| reached.contains(code)));
+    }
+
     /// What is taken already is left alone.
     #[test]
     fn a_good_case_is_kept() {

@@ -203,9 +203,9 @@ fn wrong_arrays(sheet: &Sheet) -> bool {
     !sheet.codes.has(links) || !sheet.floats.has(LINK_FLOATS * links)
 }
 
-/// 3.
+/// 3. Document 02's change 6 adds the last seven.
 fn unlisted(code: u16) -> bool {
-    !matches!(code, 0 | 10..=16 | 20..=26 | 30..=36)
+    !matches!(code, 0 | 10..=16 | 20..=26 | 30..=36 | 40..=46)
 }
 
 /// 4. The pairs of every chain look at arm 0, hence the last clause.

@@ -8,6 +8,7 @@
 use crate::groove::vars::RelaxedIKVars;
 use crate::spacetime::arm::Arm;
 use crate::spacetime::robot::Robot;
+use crate::telescoping::TELESCOPING;
 use nalgebra::{Quaternion, UnitQuaternion, Vector3, Vector6};
 
 /// Floats a link: displacement, then offset w, i, j, k.
@@ -18,7 +19,7 @@ pub const GOAL_FLOATS: usize = 13;
 pub const END_FLOATS: usize = 7;
 
 /// The names by which `Arm::init` knows a joint's kind, by the code's tens.
-const KINDS: [&str; 4] = ["fixed", "revolute", "continuous", "prismatic"];
+const KINDS: [&str; 5] = ["fixed", "revolute", "continuous", "prismatic", TELESCOPING];
 /// The names of its axes, by the code's units. It knows no "none", which is
 /// how such a joint gets no axis.
 const AXES: [&str; 7] = ["none", "x", "y", "z", "-x", "-y", "-z"];

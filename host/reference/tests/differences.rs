@@ -189,7 +189,7 @@ fn lengths_and_codes() {
     goes_on(2, &with(|l| l.codes.push(0)), PLAIN);
     panics(2, &with(|l| l.floats.extend(LINK)));
     goes_on(2, &with(|l| l.floats.truncate(7)), 368.2646647167633);
-    panics(3, &with(|l| l.codes[0] = 40));
+    panics(3, &with(|l| l.codes[0] = 50));
     goes_on(3, &with(|l| l.codes[0] = 17), PLAIN);
 }
 

@@ -58,12 +58,17 @@ fn fixed_revolute_revolute_fixed_walks_nine() {
 }
 
 /// Links and joints go on counting from one chain to the next; a raised joint
-/// is walked to the end of its own chain.
+/// is walked to the end of its own chain. A telescoping joint counts as others do.
 #[test]
 fn two_chains() {
-    let robot = robot(&[&[13, 0, 31, 0], &[0, 12, 30]]);
+    two_chains_of(&robot(&[&[13, 0, 31, 0], &[0, 12, 30]]));
+    two_chains_of(&robot(&[&[13, 0, 41, 0], &[0, 12, 40]]));
+    two_chains_of(&robot(&[&[42, 0, 46, 0], &[0, 12, 30]]));
+}
+
+fn two_chains_of(robot: &Robot) {
     let x = [0.3, -0.5, 0.7, -0.0];
-    let record = record(&robot, &x);
+    let record = record(robot, &x);
     let mut expected: Vec<(u16, u16)> = (0..7).map(|link| (NONE_RAISED, link)).collect();
     expected.extend([(0, 0), (0, 1), (0, 2), (0, 3), (1, 2), (1, 3)]);
     expected.extend([(2, 5), (2, 6), (3, 6)]);
@@ -74,7 +79,7 @@ fn two_chains() {
             copy[usize::from(joint)] += 1e-7;
         }
         let (chain, link) = if link < 4 { (0, link) } else { (1, link - 4) };
-        let expected = framed(&robot, &copy, chain, usize::from(link));
+        let expected = framed(robot, &copy, chain, usize::from(link));
         assert_eq!(pose(&record, at), expected, "entry {at}");
     }
 }

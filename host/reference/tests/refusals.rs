@@ -171,7 +171,7 @@ fn sizes_and_arrays() {
 #[test]
 fn every_code() {
     for code in 0..=u16::MAX {
-        let listed = code == 0 || [10, 20, 30].iter().any(|k| (*k..k + 7).contains(&code));
+        let listed = code == 0 || [10, 20, 30, 40].iter().any(|k| (*k..k + 7).contains(&code));
         let lists = chains(&[&[code, 13, 13]]);
         assert_eq!(lists.load(), if listed { 0 } else { 3 }, "code {code}");
     }
@@ -356,11 +356,12 @@ fn outputs_of_the_objective_and_its_slopes() {
 /// The room is what the record needs, on sheets of several chains.
 #[test]
 fn a_record_fits_its_room() {
-    let shapes: [&[&[u16]]; 4] = [
+    let shapes: [&[&[u16]]; 5] = [
         &[&[13, 12]],
         &[&[0, 0, 13, 32, 0, 20], &[11, 0, 36]],
         &[&[13; 16]],
         &[&[0, 13, 12, 0], &[13, 0, 12], &[33, 20], &[0, 10, 36]],
+        &[&[0, 13, 43, 0, 40], &[46, 0, 32]],
     ];
     for shape in shapes {
         let lists = chains(shape);

@@ -130,8 +130,10 @@ pub struct Start {
 pub struct Sheet<'a> {
     /// The number of chains, then the links of each.
     pub sizes: &'a [u16],
-    /// One a link: 0 fixed; 10, 20, 30 plus axis for revolute, continuous,
-    /// prismatic; axis 0 none, 1 to 3 x, y, z, 4 to 6 their negatives.
+    /// One a link: 0 fixed; 10, 20, 30, 40 plus axis for revolute, continuous,
+    /// prismatic, telescoping; axis 0 none, 1 to 3 x, y, z, 4 to 6 their negatives.
+    /// A prismatic joint slides along the base's axis, a telescoping one along its
+    /// own, as the arm has turned it.
     pub codes: &'a [u16],
     /// Seven a link: displacement, offset w first.
     pub floats: &'a [f64],

@@ -52,7 +52,7 @@ impl Refusal {
         match self {
             Self::Sizes => "1 to 4 chains, each of 1 to 16 links",
             Self::Lengths => "one code and seven floats a link",
-            Self::Code => "codes 0, 10 to 16, 20 to 26 and 30 to 36",
+            Self::Code => "codes 0, 10 to 16, 20 to 26, 30 to 36 and 40 to 46",
             Self::Count => "at least 2 joints a chain, at most 16 in all, and no later chain with more joints than chain 0 has links",
             Self::Limits => "two limits a joint, either -999 and 999 or both within -100..100 and upper - lower >= 0.001",
             Self::Link => "displacements within -10..10 and offsets whose squares' sum is within 0.999999999..1.000000001",

@@ -7,7 +7,13 @@
 
 use std::fmt::Write as _;
 
-const KINDS: [&str; 4] = ["fixed", "revolute", "continuous", "prismatic"];
+const KINDS: [&str; 5] = [
+    "fixed",
+    "revolute",
+    "continuous",
+    "prismatic",
+    "telescoping",
+];
 const AXES: [&str; 7] = ["none", "x", "y", "z", "-x", "-y", "-z"];
 /// The parts of an end pose, in the order of the lists.
 pub const PARTS: [&str; 7] = ["x", "y", "z", "w", "i", "j", "k"];
@@ -144,6 +150,10 @@ mod tests {
             (1, "code 1"),
             (17, "code 17"),
             (37, "code 37"),
+            (40, "telescoping none"),
+            (46, "telescoping -z"),
+            (47, "code 47"),
+            (50, "code 50"),
             (65535, "code 65535"),
         ] {
             assert_eq!(code_words(code), words);

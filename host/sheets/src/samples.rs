@@ -115,6 +115,23 @@ fn slides() -> Vec<Chain> {
     vec![Chain::new("mast", links)]
 }
 
+/// A base that turns and leans, and on it a mast that extends in two stages, each
+/// along its own axis, with a trolley across its head.
+fn extending() -> Vec<Chain> {
+    let links = vec![
+        link(23, [0.0, 0.0, 0.5], STRAIGHT, FREE),
+        link(12, [0.2, 0.0, 0.3], STRAIGHT, [-1.5, 1.5]),
+        link(43, [0.0, 0.0, 0.6], STRAIGHT, [0.0, 3.0]),
+        link(46, [0.0, 0.05, 0.4], [0.28, 0.96, 0.0, 0.0], [-2.0, 0.0]),
+        link(41, [0.0, 0.0, 0.1], [0.8, 0.0, 0.6, 0.0], [-0.5, 0.5]),
+        link(40, [0.0, 0.0, 0.05], STRAIGHT, FREE),
+        link(12, [0.1, 0.0, 0.1], STRAIGHT, [-2.5, 2.5]),
+        link(11, [0.0, 0.0, 0.2], STRAIGHT, [-2.5, 2.5]),
+        link(13, [0.0, 0.0, 0.3], STRAIGHT, [-3.1, 3.1]),
+    ];
+    vec![Chain::new("mast", links)]
+}
+
 fn two_arms() -> Vec<Chain> {
     let wide = [-2.8, 2.8];
     let left = [13, 12, 12, 11, 12, 13].map(|code| link(code, [0.2, 0.1, 0.3], STRAIGHT, wide));
@@ -148,6 +165,7 @@ pub fn good() -> Vec<Sample> {
     let rig_joints = vec![0.7, -0.35, 1.1, 0.05, 0.95, 0.08, 0.1];
     let beside = |joints: &[f64], by: f64| -> Vec<f64> { joints.iter().map(|v| v + by).collect() };
     let slid = vec![0.4, 0.9, 0.1, 0.35, 0.2, -0.6, 0.3, 0.45];
+    let extended = vec![0.8, 0.3, 1.7, -0.9, 0.2, 0.6, -0.4, 0.5, 0.35];
     let both = vec![0.2, 0.5, -0.4, 0.3, 0.6, -0.1, -0.5, 0.7, 0.4];
     let many = [0.1, 0.4, 0.2, 0.5].repeat(4);
     vec![
@@ -172,6 +190,19 @@ pub fn good() -> Vec<Sample> {
             joints: slid.clone(),
             history: Some([-0.01, -0.02, -0.04, -0.05].map(|by| beside(&slid, by))),
             goal: Some((beside(&slid, 0.004), [0.1, 0.2, 0.0, 0.0, 0.5, 3.2])),
+            weights: None,
+            pick: Pick::Tolerance,
+            filed: true,
+        },
+        Sample {
+            file: "extension_mast",
+            about: "A mast on a base that turns and leans: telescoping joints slide along\n\
+                    their own axes, and the one without axis does not slide.",
+            hole: "Collar 18, extension mast",
+            chains: extending(),
+            joints: extended.clone(),
+            history: Some([-0.01, -0.02, -0.04, -0.05].map(|by| beside(&extended, by))),
+            goal: Some((beside(&extended, 0.004), [0.1, 0.2, 0.0, 0.0, 0.5, 3.2])),
             weights: None,
             pick: Pick::Tolerance,
             filed: true,
@@ -420,6 +451,13 @@ pub fn bad() -> Vec<Bad> {
             "link revolute x",
             "revolute x",
             "code 37",
+        ),
+        words(
+            "refused_3_code_47",
+            13,
+            "link revolute x",
+            "revolute x",
+            "code 47",
         ),
         Bad {
             file: "refused_4_one_joint",

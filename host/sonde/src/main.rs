@@ -291,7 +291,7 @@ mod tests {
                     0 => drop(lines.remove(at)),
                     1 => lines.insert(at, lines[below(lines.len())].clone()),
                     2 => lines.swap(at, below(at + 1)),
-                    3 => lines[at] = lines[at].replace("link fixed", "link code 40"),
+                    3 => lines[at] = lines[at].replace("link fixed", "link code 47"),
                     _ => {
                         let word = below(words.len());
                         words[word] = odd[below(odd.len())].to_string();

@@ -107,7 +107,7 @@ fn words(out: &mut String, at: [f64; 2], style: &str, text: &str) {
 fn mark(out: &mut String, [x, y]: [f64; 2], code: u16, colour: &str) {
     let _ = match code / 10 {
         0 => writeln!(out, "<circle cx=\"{x:.2}\" cy=\"{y:.2}\" r=\"2.5\" fill=\"{colour}\"/>"),
-        3 => writeln!(
+        3 | 4 => writeln!(
             out,
             "<rect x=\"{:.2}\" y=\"{:.2}\" width=\"9\" height=\"9\" fill=\"white\" stroke=\"{colour}\" stroke-width=\"2\"/>",
             x - 4.5,
@@ -576,6 +576,19 @@ mod tests {
         assert!(drawing.contains("&lt;a&gt; &amp; &quot;b&quot;"));
         assert!(!drawing.contains("NaN") && !drawing.contains("inf\""));
         assert!(!drawing.contains("flange"), "there is no tool");
+    }
+
+    #[test]
+    fn slides_of_either_kind_are_squares() {
+        let drawn = |code| {
+            let mut out = String::new();
+            mark(&mut out, [0.0, 0.0], code, "#222");
+            out
+        };
+        assert!(drawn(30).starts_with("<rect"));
+        for code in (31..=36).chain(40..=46) {
+            assert_eq!(drawn(code), drawn(30), "{code}");
+        }
     }
 
     /// The picture reaches to the tip, and the flange has a mark in both views and in

@@ -8,7 +8,13 @@ use std::fmt;
 /// A file larger than this is no sheet.
 pub const MOST_BYTES: usize = 1 << 20;
 
-const KINDS: [&str; 4] = ["fixed", "revolute", "continuous", "prismatic"];
+const KINDS: [&str; 5] = [
+    "fixed",
+    "revolute",
+    "continuous",
+    "prismatic",
+    "telescoping",
+];
 const AXES: [&str; 7] = ["none", "x", "y", "z", "-x", "-y", "-z"];
 /// The lists of objectives by the words of a `goals` line.
 const GOALS: [(&str, ObjectiveList); 2] = [
@@ -550,6 +556,22 @@ filed slope.1 -0 8000000000000000
         assert_eq!(keys, [Key::End(0, 0), Key::Azimuth(0), Key::Slope(1)]);
         assert_eq!(file.filed[2].figure, Figure::Exact(-0.0));
         assert!(file.uneven().is_none());
+    }
+
+    /// Each kind's word with an axis's is a code of the lists.
+    #[test]
+    fn kinds_have_their_codes() {
+        for (words, code) in [
+            ("revolute none", 10),
+            ("continuous x", 21),
+            ("prismatic -z", 36),
+            ("telescoping none", 40),
+            ("telescoping z", 43),
+            ("telescoping -z", 46),
+        ] {
+            let file = parse(GOOD.replace("prismatic -y", words).as_bytes()).unwrap();
+            assert_eq!(file.lists().codes, [13, 0, code], "{words}");
+        }
     }
 
     /// A tool is lent by the number of its chain, whichever others have none.

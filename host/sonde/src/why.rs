@@ -81,7 +81,7 @@ fn seven(what: &str, row: &Row) -> Option<Place> {
 }
 
 fn code(file: &File) -> Option<Place> {
-    let listed = |code| matches!(code, 0 | 10..=16 | 20..=26 | 30..=36);
+    let listed = |code| matches!(code, 0 | 10..=16 | 20..=26 | 30..=36 | 40..=46);
     let mut links = file.links();
     let (chain, link_at, link) = links.find(|(_, _, link)| !listed(link.code))?;
     let (name, code) = (&chain.name, link.code);

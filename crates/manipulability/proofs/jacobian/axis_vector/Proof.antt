@@ -1,7 +1,5 @@
 -- `axis_vector` meets its contract: each return follows the test.
-use mathlib.Core.Path.{ap, _∙_}
 use borrow.Author.Tests.{eq-eqb, ne-eqb}
-use Rattle.geometry.specs.Quaternion.{rotateOf}
 use Rattle.manipulability.specs.Jacobian.{axisVector}
 use borrow.Author.Needs.{needs}
 use Rattle.manipulability.proofs.jacobian.axis_vector.Statement.{statement}
@@ -11,15 +9,12 @@ returns : tie.Need-returns
 unfolding axisVector
 returns c = rw (eq-eqb _ 0 (c .if1 .taken))
 
-along-requires : tie.Need-along-requires
-along-requires c κs = search needs
-
-rotate-requires : tie.Need-rotate-requires
-rotate-requires c κs = search needs
+own-axis-requires : tie.Need-own-axis-requires
+own-axis-requires c κs = search needs
 
 returns-2 : tie.Need-returns-2
 unfolding axisVector
-returns-2 c = rw (ne-eqb _ 0 (c .before .before .if1 .left)) (c .rotate .ensures ∙ ap (rotateOf _) (c .before .along .ensures))
+returns-2 c = rw (ne-eqb _ 0 (c .before .if1 .left)) (c .own-axis .ensures)
 
 pub axis-vector-spec : {M : Type 1} → statement M
-axis-vector-spec = tie.close (tie.spec returns along-requires rotate-requires returns-2)
+axis-vector-spec = tie.close (tie.spec returns own-axis-requires returns-2)

@@ -28,6 +28,12 @@ enum-told-3 c = search needs
 identity-requires-3 : tie.Need-identity-requires-3
 identity-requires-3 c κs = search needs
 
+enum-told-4 : tie.Need-enum-told-4
+enum-told-4 c = search needs
+
+identity-requires-4 : tie.Need-identity-requires-4
+identity-requires-4 c κs = search needs
+
 returns : tie.Need-returns
 unfolding jointTurn
 returns c = rw (c .before .before .kind .given .1) (c .turn .ensures)
@@ -44,6 +50,10 @@ returns-4 : tie.Need-returns-4
 unfolding jointTurn
 returns-4 c = rw (c .before .enum-told3 .given .1) (c .identity3 .ensures)
 
+returns-5 : tie.Need-returns-5
+unfolding jointTurn
+returns-5 c = rw (c .before .enum-told4 .given .1) (c .identity4 .ensures)
+
 pub joint-turn-spec : {M : Type 1} → statement M
 joint-turn-spec =
     tie.close
@@ -56,7 +66,10 @@ joint-turn-spec =
     identity-requires-2
     enum-told-3
     identity-requires-3
+    enum-told-4
+    identity-requires-4
     returns
     returns-2
     returns-3
-    returns-4)
+    returns-4
+    returns-5)

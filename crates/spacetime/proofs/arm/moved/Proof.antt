@@ -16,6 +16,12 @@ enum-known-kind c = search needs
 slid-requires : tie.Need-slid-requires
 slid-requires c κs = search needs
 
+enum-known-kind-2 : tie.Need-enum-known-kind-2
+enum-known-kind-2 c = search needs
+
+telescoped-requires : tie.Need-telescoped-requires
+telescoped-requires c κs = search needs
+
 enum-told-2 : tie.Need-enum-told-2
 enum-told-2 c = search needs
 
@@ -28,15 +34,19 @@ returns c = rw (c .enum-told .given .1) (c .before .before .carried .ensures)
 
 returns-2 : tie.Need-returns-2
 unfolding movedOf
-returns-2 c = rw (c .before .before .kind .given .1) (cc)
+returns-2 c = rw (c .before .before .kind .given .1, ← c .before .before .before .before .carried .ensures) (c .slid .ensures)
 
 returns-3 : tie.Need-returns-3
 unfolding movedOf
-returns-3 c = rw (c .enum-told2 .given .1) (c .before .before .carried .ensures)
+returns-3 c = rw (c .before .before .kind2 .given .1, ← c .before .before .before .before .carried .ensures) (c .telescoped .ensures)
 
 returns-4 : tie.Need-returns-4
 unfolding movedOf
-returns-4 c = rw (c .enum-told3 .given .1) (c .before .before .carried .ensures)
+returns-4 c = rw (c .enum-told2 .given .1) (c .before .before .carried .ensures)
+
+returns-5 : tie.Need-returns-5
+unfolding movedOf
+returns-5 c = rw (c .enum-told3 .given .1) (c .before .before .carried .ensures)
 
 pub moved-spec : {M : Type 1} → statement M
 moved-spec =
@@ -46,9 +56,12 @@ moved-spec =
     enum-told
     enum-known-kind
     slid-requires
+    enum-known-kind-2
+    telescoped-requires
     enum-told-2
     enum-told-3
     returns
     returns-2
     returns-3
-    returns-4)
+    returns-4
+    returns-5)
