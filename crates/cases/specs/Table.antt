@@ -27,7 +27,7 @@ use Rattle.sheet.specs.Read.{kindAt}
 use Rattle.sheet.specs.Tool.{hasTool}
 use Rattle.sheet.specs.Chain.{firstIn, endIn, total, chainStart, jointsOf, jointOf, joints, chainLength}
 use Rattle.task.specs.declared.picks.Picks.{Picks}
-use Rattle.spacetime.specs.Link.{isNone, offsetOf, signedBy, alongOf, turnOf, jointTurn, aboutOf, turnedBy, carriedOf, slidOf, ownAxisOf, telescopedOf, movedOf, linkOf}
+use Rattle.spacetime.specs.Link.{isNone, offsetOf, signedBy, alongOf, turnOf, jointTurn, aboutOf, turnedBy, carriedOf, slidOf, ownAxisOf, telescopedOf, movedOf, extendedOf, linkOf}
 use Rattle.spacetime.specs.Floats.{vecAt, quatAt, flatVec, flatQuat, flat}
 use Rattle.spacetime.specs.Walk.{valueOf, afterLink, startOf, beforeOf, poseOf}
 use Rattle.spacetime.specs.Tool.{tipOf}
@@ -252,7 +252,7 @@ poses-walked gs x = refl
 
 -- All of them, by computing both sides.
 pub cases : Cases
-unfolding recordJoints recordLinks recordOf againOf jointEntry linkEntry againAt againBelow entriesOf endIn objectives goalObjectives limitObjective motionObjectives pairObjective allPairs chainPairs pairsOf pairsFrom grooveLoss swampLoss scaledOf boundsPenalty powerOf bOf power20Of squarings expOf expSeriesOf expTermOf positionsOf rotationsOf chainPositions chainRotations positionsFrom rotationsFrom positionAt rotationAt runs poseOf beforeOf startOf afterLink valueOf linkOf isNone offsetOf signedBy alongOf turnOf jointTurn aboutOf turnedBy carriedOf ownAxisOf telescopedOf slidOf movedOf vecAt quatAt flatVec flatQuat firstIn total chainStart hasJoint jointsOf jointOf joints kindAt kindOf originOf zeroOf identityOf productOf axisOf twiceOf rotateOf quatZOf sineOf cosineOf seriesOf termOf sineDivisor cosineDivisor downFrom rootOf distanceOf pointOf closestOf endedOf innerOf addOf subOf scaleOf dotOf crossOf normOf cutOf blockRefusal jointFits valueFits linkValueFits blockFits badBlock every between within withinAt squaresOf nearOne unitAt freeOf rangedPair pairFits limitsFit badLimits linkFits badFloats loadRefusal lowest lowestFrom badSizes linksFit badLengths badCodes listedAt listedCode listedKind badJoints twoJoints laterFits chainLength weightsRefusal badWeights weightFitsAt weightFits tipOf hasTool sevenFit toolRefusal badTool toolsRefusal badTools toolFits weightOf kindNumber goalWidth posGoalsLoss quatGoalsLoss matchEEPosGoals matchEEQuatGoals evaluateOf strictLoss minOf negativeOf distanceFrom angleFrom angleBetweenQuaternion quaternionDisp quaternionLog fromQuaternion overQuat quatNorm acosOf acuteOf oppositeOf inverseOf absOf atan2Of smallAngleOf halvedOf arcSeriesOf arcTermOf add sub mul div neg eq ne lt le ofInt ofBits sizingOf plannedIf planOf sizingRefusal positionsLength rotationsLength chainLengths listed
+unfolding recordJoints recordLinks recordOf againOf jointEntry linkEntry againAt againBelow entriesOf endIn objectives goalObjectives limitObjective motionObjectives pairObjective allPairs chainPairs pairsOf pairsFrom grooveLoss swampLoss scaledOf boundsPenalty powerOf bOf power20Of squarings expOf expSeriesOf expTermOf positionsOf rotationsOf chainPositions chainRotations positionsFrom rotationsFrom positionAt rotationAt runs poseOf beforeOf startOf afterLink valueOf linkOf isNone offsetOf signedBy alongOf turnOf jointTurn aboutOf turnedBy carriedOf ownAxisOf telescopedOf slidOf movedOf extendedOf vecAt quatAt flatVec flatQuat firstIn total chainStart hasJoint jointsOf jointOf joints kindAt kindOf originOf zeroOf identityOf productOf axisOf twiceOf rotateOf quatZOf sineOf cosineOf seriesOf termOf sineDivisor cosineDivisor downFrom rootOf distanceOf pointOf closestOf endedOf innerOf addOf subOf scaleOf dotOf crossOf normOf cutOf blockRefusal jointFits valueFits linkValueFits blockFits badBlock every between within withinAt squaresOf nearOne unitAt freeOf rangedPair pairFits limitsFit badLimits linkFits badFloats loadRefusal lowest lowestFrom badSizes linksFit badLengths badCodes listedAt listedCode listedKind badJoints twoJoints laterFits chainLength weightsRefusal badWeights weightFitsAt weightFits tipOf hasTool sevenFit toolRefusal badTool toolsRefusal badTools toolFits weightOf kindNumber goalWidth posGoalsLoss quatGoalsLoss matchEEPosGoals matchEEQuatGoals evaluateOf strictLoss minOf negativeOf distanceFrom angleFrom angleBetweenQuaternion quaternionDisp quaternionLog fromQuaternion overQuat quatNorm acosOf acuteOf oppositeOf inverseOf absOf atan2Of smallAngleOf halvedOf arcSeriesOf arcTermOf add sub mul div neg eq ne lt le ofInt ofBits sizingOf plannedIf planOf sizingRefusal positionsLength rotationsLength chainLengths listed
 cases = record {
   groove-centre = refl;
   swamp-centre = refl;

@@ -78,20 +78,28 @@ slidOf before carried a v = vecIf (eqb a 0) before (addOf carried (alongOf a v))
 unfoldable pub ownAxisOf : Quat → ℕ → Vec3
 ownAxisOf q a = rotateOf q (alongOf a one)
 
--- a telescoping joint's move by v: along its own axis, which the rotation q after the link turns; with axis none it moves no further than the displacement carries it
+-- a telescoping joint's move by v, from where the displacement carries it: along its own axis, which the rotation q after the link turns; with axis none it moves no further
 unfoldable pub telescopedOf : Vec3 → Quat → ℕ → Float → Vec3
 telescopedOf carried q a v = vecIf (eqb a 0) carried (addOf carried (scaleOf (ownAxisOf q a) v))
 
--- the position after a link of displacement d, q being the rotation after it and v its joint's value
-unfoldable pub movedOf : Kind → Pose → Vec3 → Quat → Float → Vec3
-movedOf Fixed p d q v = carriedOf p d
-movedOf Unlisted p d q v = carriedOf p d
-movedOf (Turning a) p d q v = carriedOf p d
-movedOf (Sliding a) p d q v = slidOf (p .position) (carriedOf p d) a v
-movedOf (Telescoping a) p d q v = telescopedOf (carriedOf p d) q a v
+-- the point after a link of displacement d, its joint at v, but for a move along the link's own axis
+unfoldable pub movedOf : Kind → Pose → Vec3 → Float → Vec3
+movedOf Fixed p d v = carriedOf p d
+movedOf Unlisted p d v = carriedOf p d
+movedOf (Turning a) p d v = carriedOf p d
+movedOf (Sliding a) p d v = slidOf (p .position) (carriedOf p d) a v
+movedOf (Telescoping a) p d v = carriedOf p d
+
+-- that move, from the point c, q being the rotation after the link: only a telescoping joint makes it
+unfoldable pub extendedOf : Kind → Vec3 → Quat → Float → Vec3
+extendedOf Fixed c q v = c
+extendedOf Unlisted c q v = c
+extendedOf (Turning a) c q v = c
+extendedOf (Sliding a) c q v = c
+extendedOf (Telescoping a) c q v = telescopedOf c q a v
 
 -- the pose after a link of displacement d and offset o, its joint at v
 unfoldable pub linkOf : Kind → Vec3 → Quat → Float → Pose → Pose
 linkOf kind d o v p =
     let q = turnedBy kind (offsetOf (p .rotation) o) (jointTurn kind v) in
-    record { position = movedOf kind p d q v; rotation = q }
+    record { position = extendedOf kind (movedOf kind p d v) q v; rotation = q }

@@ -21,7 +21,7 @@ use Rattle.geometry.specs.Vector.{vec, addOf, scaleOf, crossOf}
 use Rattle.geometry.specs.Quaternion.{identityOf, axisOf, twiceOf, rotateOf}
 use Rattle.sheet.specs.declared.code.Kind.the-variants.{Sliding, Telescoping}
 use Rattle.sheet.specs.Code.{prismatic-code, telescoping-code}
-use Rattle.spacetime.specs.Link.{vecIf, isNone, offsetOf, signedBy, alongOf, jointTurn, turnedBy, carriedOf, slidOf, ownAxisOf, telescopedOf, movedOf, linkOf}
+use Rattle.spacetime.specs.Link.{vecIf, isNone, offsetOf, signedBy, alongOf, jointTurn, turnedBy, carriedOf, slidOf, ownAxisOf, telescopedOf, movedOf, extendedOf, linkOf}
 use Rattle.spacetime.specs.Floats.{vecAt, quatAt}
 use Rattle.spacetime.specs.Walk.{afterLink}
 use Rattle.spacetime.specs.Urdf.{after-code}
@@ -157,7 +157,7 @@ same-position a d q v p n r e k f D P =
 -- with no rotation before the link and a skipped offset, a telescoping and a prismatic joint that have an axis end at the same pose; a value that 7 lets pass is finite
 pub same-point : (a : ℕ) (d : Vec3) (o : Quat) (v : Float) (p : Pose) → (a ≡ 0 → ⊥) → p .rotation ≡ identityOf → isNone o ≡ true → T (fits binary64 v) → T (finite v)
     → vecFits d → vecFits (p .position) → linkOf (Telescoping a) d o v p ≡ linkOf (Sliding a) d o v p
-unfolding linkOf movedOf turnedBy jointTurn
+unfolding linkOf movedOf extendedOf turnedBy jointTurn
 same-point a d o v p n r s k f D P =
     let q = offsetOf (p .rotation) o in
     ap (λ (w : Vec3). record { position = w; rotation = q }) (same-position a d q v p n r (skipped (p .rotation) o s ∙ r) k f D P)

@@ -17,7 +17,7 @@ use Rattle.lists.specs.Runs.{runs, length-runs, getD-runs, splice-turn-at, spli
 use Rattle.sheet.specs.declared.code.Kind.{Kind}
 use Rattle.sheet.specs.Chain.{firstIn, jointOf}
 use Rattle.sheet.specs.Read.{kindAt}
-use Rattle.spacetime.specs.Link.{quatIf, jointTurn, offsetOf, turnedBy, movedOf, linkOf}
+use Rattle.spacetime.specs.Link.{quatIf, jointTurn, offsetOf, turnedBy, movedOf, extendedOf, linkOf}
 use Rattle.spacetime.specs.Floats.{vecAt, quatAt, flatQuat, quat-length, quat-is}
 use Rattle.spacetime.specs.Walk.{poseIf, valueOf, afterLink, startOf, beforeOf, poseOf}
 
@@ -141,17 +141,13 @@ unfolding afterLink linkOf afterTurn turnAt
 after-rotation cs gs x p l j = refl
 
 -- a link's pose, whose rotation is known
-pub pose-known : (cs : List ℕ) (gs x : List Float) (p : Pose) (l j : ℕ) (kind : Kind) (d : Vec3) (v : Float) (m : Vec3) (q : Quat) → kind ≡ kindAt cs l → d ≡ vecAt gs (7 * l)
-    → v ≡ valueOf cs x l j → m ≡ movedOf kind p d q v → q ≡ afterLink cs gs x p l j .rotation → record { position = m; rotation = q } ≡ afterLink cs gs x p l j
+pub pose-known : (cs : List ℕ) (gs x : List Float) (p : Pose) (l j : ℕ) (kind : Kind) (d : Vec3) (v : Float) (m r : Vec3) (q : Quat) → kind ≡ kindAt cs l → d ≡ vecAt gs (7 * l)
+    → v ≡ valueOf cs x l j → m ≡ movedOf kind p d v → r ≡ extendedOf kind m q v → q ≡ afterLink cs gs x p l j .rotation
+    → record { position = r; rotation = q } ≡ afterLink cs gs x p l j
 unfolding afterLink linkOf
-pose-known cs gs x p l j kind d v m q e₁ e₂ e₃ e₄ e₅ =
-    ap (λ (z : Quat). record { position = m; rotation = z }) e₅
-    ∙ ap (λ (z : Vec3). record { position = z; rotation = afterLink cs gs x p l j .rotation })
-    (e₄
-    ∙ ap (λ (z : Kind). movedOf z p d q v) e₁
-    ∙ ap (λ (z : Vec3). movedOf (kindAt cs l) p z q v) e₂
-    ∙ ap (λ (z : Quat). movedOf (kindAt cs l) p (vecAt gs (7 * l)) z v) e₅
-    ∙ ap (movedOf (kindAt cs l) p (vecAt gs (7 * l)) (afterLink cs gs x p l j .rotation)) e₃)
+pose-known cs gs x p l j kind d v m r q e₁ e₂ e₃ e₄ e₅ e₆ =
+    ap (λ (z : Vec3). record { position = z; rotation = q }) (e₅ ∙ ap (λ (z : Vec3). extendedOf kind z q v) e₄)
+    ∙ (λ i. record { position = extendedOf (e₁ i) (movedOf (e₁ i) p (e₂ i) (e₃ i)) (e₆ i) (e₃ i); rotation = e₆ i })
 
 -- the rotations made of a block's turns are those of its walk
 module _ (ns cs : List ℕ) (gs x ts : List Float) (turned : Turned cs x ts) where

@@ -18,7 +18,7 @@ use Rattle.sheet.specs.declared.code.Kind.the-variants.{Fixed, Telescoping}
 use Rattle.sheet.specs.Code.{hasJoint, kindOf, telescoping-code}
 use Rattle.sheet.specs.Read.{kindAt}
 use Rattle.sheet.specs.Chain.{jointOf}
-use Rattle.spacetime.specs.Link.{vecIf, offsetOf, alongOf, jointTurn, turnedBy, carriedOf, ownAxisOf, telescopedOf, movedOf, linkOf}
+use Rattle.spacetime.specs.Link.{vecIf, offsetOf, alongOf, jointTurn, turnedBy, carriedOf, ownAxisOf, telescopedOf, movedOf, extendedOf, linkOf}
 use Rattle.spacetime.specs.Floats.{vecAt, quatAt}
 use Rattle.spacetime.specs.Walk.{valueOf, afterLink, beforeOf, poseOf}
 
@@ -38,17 +38,17 @@ urdfPrismatic d o a v p = alongOwn (jointFrame p d o) a v
 module _ (d : Vec3) (o : Quat) (v : Float) (p : Pose) where
   -- the joint's frame is where a fixed link ends
   pub frame-fixed : jointFrame p d o ≡ linkOf Fixed d o v p
-  unfolding jointFrame linkOf movedOf carriedOf turnedBy jointTurn
+  unfolding jointFrame linkOf movedOf extendedOf carriedOf turnedBy jointTurn
   frame-fixed = refl
 
   -- the step of a telescoping link is URDF's
   pub telescoping-urdf : (a : ℕ) → linkOf (Telescoping a) d o v p ≡ urdfPrismatic d o a v p
-  unfolding linkOf urdfPrismatic jointFrame alongOwn movedOf carriedOf telescopedOf ownAxisOf turnedBy jointTurn
+  unfolding linkOf urdfPrismatic jointFrame alongOwn movedOf extendedOf carriedOf telescopedOf ownAxisOf turnedBy jointTurn
   telescoping-urdf a = refl
 
   -- without axis it is that of a fixed link
   pub telescoping-none : linkOf (Telescoping 0) d o v p ≡ linkOf Fixed d o v p
-  unfolding linkOf movedOf carriedOf telescopedOf turnedBy jointTurn
+  unfolding linkOf movedOf extendedOf carriedOf telescopedOf turnedBy jointTurn
   telescoping-none = refl
 
 -- a link of code c, which has a joint, and kind k, in a sheet: its joint's value is read from the block

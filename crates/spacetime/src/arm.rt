@@ -15,7 +15,7 @@ ghost use lib.ListN.{length, getD};
 ghost use Rattle.lists.specs.Splice.{splice};
 ghost use Rattle.sheet.specs.Chain.{jointsOf, joints};
 ghost use Rattle.spacetime.specs.Floats.{quatAt};
-ghost use Rattle.spacetime.specs.Link.{isNone, offsetOf, signedBy, alongOf, turnOf, jointTurn, aboutOf, turnedBy, carriedOf, slidOf, ownAxisOf, telescopedOf, movedOf, linkOf};
+ghost use Rattle.spacetime.specs.Link.{isNone, offsetOf, signedBy, alongOf, turnOf, jointTurn, aboutOf, turnedBy, carriedOf, slidOf, ownAxisOf, telescopedOf, movedOf, extendedOf, linkOf};
 ghost use Rattle.spacetime.specs.Walk.{valueOf, afterLink, startOf, Sheet, framesOf};
 ghost use Rattle.spacetime.specs.Turns.{turnsOf, startTurn, afterTurn, rotationsBy, Rotated};
 
@@ -160,17 +160,30 @@ fn telescoped(carried: Vec3, rotation: Quat, axis: u16, v: f64) -> Vec3
     vector::add(carried, vector::scale(own_axis(rotation, axis), v))
 }
 
-// The position after a link, asked with the rotation after it. Every kind but a prismatic joint without axis is carried, so that is worked out first, and stands in the code once.
-fn moved(kind: Kind, p: Pose, d: Vec3, rotation: Quat, v: f64) -> Vec3
-    ensures { λ r. ⌜ r ≡ movedOf kind p d rotation v ⌝ }
+// The point after a link, but for a move along its own axis. Every kind but a prismatic joint without axis is carried, so that is worked out first, and stands in the code once.
+fn moved(kind: Kind, p: Pose, d: Vec3, v: f64) -> Vec3
+    ensures { λ r. ⌜ r ≡ movedOf kind p d v ⌝ }
 {
     let c = carried(p, d);
     match kind {
         Kind::Turning(_) => c,
         Kind::Sliding(axis) => slid(p.position, c, axis, v),
-        Kind::Telescoping(axis) => telescoped(c, rotation, axis, v),
+        Kind::Telescoping(_) => c,
         Kind::Fixed => c,
         Kind::Unlisted => c,
+    }
+}
+
+// That move, asked with the rotation after the link. Apart from `moved`, so that each is short enough for the compiler to put both into the walk.
+fn extended(kind: Kind, at: Vec3, rotation: Quat, v: f64) -> Vec3
+    ensures { λ r. ⌜ r ≡ extendedOf kind at rotation v ⌝ }
+{
+    match kind {
+        Kind::Turning(_) => at,
+        Kind::Sliding(_) => at,
+        Kind::Telescoping(axis) => telescoped(at, rotation, axis, v),
+        Kind::Fixed => at,
+        Kind::Unlisted => at,
     }
 }
 
@@ -179,10 +192,10 @@ pub(crate) fn link(kind: Kind, d: Vec3, o: Quat, v: f64, t: Quat, p: Pose) -> Po
     requires { ⌜ t ≡ jointTurn kind v ⌝ }
     ensures { λ r. ⌜ r ≡ linkOf kind d o v p ⌝ }
 {
-    let rotation = turned(kind, offset(p.rotation, o), t);
+    let q = turned(kind, offset(p.rotation, o), t);
     Pose {
-        position: moved(kind, p, d, rotation, v),
-        rotation,
+        position: extended(kind, moved(kind, p, d, v), q, v),
+        rotation: q,
     }
 }
 
@@ -296,7 +309,7 @@ fn after_known(
     let v = value(codes, block, at, joint);
     let rotation = floats::get_quat(rotations, 4 * at);
     Pose {
-        position: moved(kind, p, d, rotation, v),
+        position: extended(kind, moved(kind, p, d, v), rotation, v),
         rotation,
     }
 }

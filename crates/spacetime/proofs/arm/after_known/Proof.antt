@@ -26,15 +26,19 @@ get-quat-requires c κs = search needs
 moved-requires : tie.Need-moved-requires
 moved-requires c κs = search needs
 
+extended-requires : tie.Need-extended-requires
+extended-requires c κs = search needs
+
 returns : tie.Need-returns
 returns c =
-    let q = c .before in
+    let m = c .before in
+    let q = m .before in
     let v = q .before in
     let d = v .before in
     let k = d .before in
     let s = k .before .before .before .before .before in
-    pose-known _ _ _ (s .args .p) (s .args .at) (s .args .joint) (k .kind-at .result) (d .get-vec .result) (v .value .result) (c .moved .result) (q .get-quat .result)
-    (k .kind-at .ensures) (d .get-vec .ensures) (v .value .ensures) (c .moved .ensures) (q .get-quat .ensures ∙ s .pre .1 .1)
+    pose-known _ _ _ (s .args .p) (s .args .at) (s .args .joint) (k .kind-at .result) (d .get-vec .result) (v .value .result) (m .moved .result) (c .extended .result) (q .get-quat .result)
+    (k .kind-at .ensures) (d .get-vec .ensures) (v .value .ensures) (m .moved .ensures) (c .extended .ensures) (q .get-quat .ensures ∙ s .pre .1 .1)
 
 pub after-known-spec : {M : Type 1} → statement M
 after-known-spec =
@@ -47,4 +51,5 @@ after-known-spec =
     mul-get-quat
     get-quat-requires
     moved-requires
+    extended-requires
     returns)

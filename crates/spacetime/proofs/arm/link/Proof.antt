@@ -13,9 +13,12 @@ turned-requires c κs = search needs
 moved-requires : tie.Need-moved-requires
 moved-requires c κs = search needs
 
+extended-requires : tie.Need-extended-requires
+extended-requires c κs = search needs
+
 returns : tie.Need-returns
 unfolding linkOf
 returns c = cc
 
 pub link-spec : {M : Type 1} → statement M
-link-spec = tie.close (tie.spec offset-requires turned-requires moved-requires returns)
+link-spec = tie.close (tie.spec offset-requires turned-requires moved-requires extended-requires returns)

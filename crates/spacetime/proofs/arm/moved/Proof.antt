@@ -16,17 +16,14 @@ enum-known-kind c = search needs
 slid-requires : tie.Need-slid-requires
 slid-requires c κs = search needs
 
-enum-known-kind-2 : tie.Need-enum-known-kind-2
-enum-known-kind-2 c = search needs
-
-telescoped-requires : tie.Need-telescoped-requires
-telescoped-requires c κs = search needs
-
 enum-told-2 : tie.Need-enum-told-2
 enum-told-2 c = search needs
 
 enum-told-3 : tie.Need-enum-told-3
 enum-told-3 c = search needs
+
+enum-told-4 : tie.Need-enum-told-4
+enum-told-4 c = search needs
 
 returns : tie.Need-returns
 unfolding movedOf
@@ -38,15 +35,15 @@ returns-2 c = rw (c .before .before .kind .given .1, ← c .before .before .befo
 
 returns-3 : tie.Need-returns-3
 unfolding movedOf
-returns-3 c = rw (c .before .before .kind2 .given .1, ← c .before .before .before .before .carried .ensures) (c .telescoped .ensures)
+returns-3 c = rw (c .enum-told2 .given .1) (c .before .before .carried .ensures)
 
 returns-4 : tie.Need-returns-4
 unfolding movedOf
-returns-4 c = rw (c .enum-told2 .given .1) (c .before .before .carried .ensures)
+returns-4 c = rw (c .enum-told3 .given .1) (c .before .before .carried .ensures)
 
 returns-5 : tie.Need-returns-5
 unfolding movedOf
-returns-5 c = rw (c .enum-told3 .given .1) (c .before .before .carried .ensures)
+returns-5 c = rw (c .enum-told4 .given .1) (c .before .before .carried .ensures)
 
 pub moved-spec : {M : Type 1} → statement M
 moved-spec =
@@ -56,10 +53,9 @@ moved-spec =
     enum-told
     enum-known-kind
     slid-requires
-    enum-known-kind-2
-    telescoped-requires
     enum-told-2
     enum-told-3
+    enum-told-4
     returns
     returns-2
     returns-3
