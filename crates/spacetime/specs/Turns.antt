@@ -140,14 +140,22 @@ after-rotation : (cs : List ℕ) (gs x : List Float) (p : Pose) (l j : ℕ) → 
 unfolding afterLink linkOf afterTurn turnAt
 after-rotation cs gs x p l j = refl
 
--- a link's pose, whose rotation is known
+-- a link's pose, made of its two steps and its rotation
+pub link-made : (kind : Kind) (d : Vec3) (o : Quat) (v : Float) (p : Pose) (m r : Vec3) (q : Quat) → m ≡ movedOf kind p d v → r ≡ extendedOf kind m q v
+    → q ≡ turnedBy kind (offsetOf (p .rotation) o) (jointTurn kind v) → record { position = r; rotation = q } ≡ linkOf kind d o v p
+unfolding linkOf
+link-made kind d o v p m r q e₁ e₂ e₃ =
+    ap (λ (z : Vec3). record { position = z; rotation = q }) (e₂ ∙ ap (λ (z : Vec3). extendedOf kind z q v) e₁)
+    ∙ ap (λ (z : Quat). record { position = extendedOf kind (movedOf kind p d v) z v; rotation = z }) e₃
+
+-- the same of a sheet's link, whose rotation is known
 pub pose-known : (cs : List ℕ) (gs x : List Float) (p : Pose) (l j : ℕ) (kind : Kind) (d : Vec3) (v : Float) (m r : Vec3) (q : Quat) → kind ≡ kindAt cs l → d ≡ vecAt gs (7 * l)
     → v ≡ valueOf cs x l j → m ≡ movedOf kind p d v → r ≡ extendedOf kind m q v → q ≡ afterLink cs gs x p l j .rotation
     → record { position = r; rotation = q } ≡ afterLink cs gs x p l j
 unfolding afterLink linkOf
 pose-known cs gs x p l j kind d v m r q e₁ e₂ e₃ e₄ e₅ e₆ =
-    ap (λ (z : Vec3). record { position = z; rotation = q }) (e₅ ∙ ap (λ (z : Vec3). extendedOf kind z q v) e₄)
-    ∙ (λ i. record { position = extendedOf (e₁ i) (movedOf (e₁ i) p (e₂ i) (e₃ i)) (e₆ i) (e₃ i); rotation = e₆ i })
+    link-made (kindAt cs l) (vecAt gs (7 * l)) (quatAt gs (7 * l + 3)) (valueOf cs x l j) p m r q
+    (e₄ ∙ (λ i. movedOf (e₁ i) p (e₂ i) (e₃ i))) (e₅ ∙ (λ i. extendedOf (e₁ i) m q (e₃ i))) e₆
 
 -- the rotations made of a block's turns are those of its walk
 module _ (ns cs : List ℕ) (gs x ts : List Float) (turned : Turned cs x ts) where
