@@ -42,9 +42,12 @@ fn joint_8_is_taken_and_the_next_float_refused() {
         (f64::NAN, 7),
         (-0.0, 0),
     ] {
-        let mut lists = chains(&[&[13, 12]]);
-        lists.joints[1] = value;
-        assert_eq!(lists.manipulability(), answer, "{value:e}");
+        // A turning joint, and a slide of either kind.
+        for code in [12, 33, 43] {
+            let mut lists = chains(&[&[13, code]]);
+            lists.joints[1] = value;
+            assert_eq!(lists.manipulability(), answer, "{code}, {value:e}");
+        }
     }
 }
 
@@ -56,6 +59,9 @@ fn one_joint_is_refused_and_two_are_taken() {
     assert_eq!(chains(&[&[13, 13]]).load(), 0);
     assert_eq!(chains(&[&[13, 13], &[0, 13]]).load(), 4);
     assert_eq!(chains(&[&[13, 13], &[13, 13]]).load(), 0);
+    // A slide of either kind is a joint, with an axis or without.
+    assert_eq!(chains(&[&[43]]).load(), 4);
+    assert_eq!(chains(&[&[30, 43], &[40, 33]]).load(), 0);
 }
 
 #[test]

@@ -2,12 +2,8 @@
 //! arm where that knows the links, against fixed links in URDF's order, and against
 //! cases worked by hand.
 
-mod lists;
-
-use lists::{chains, UP};
 use nalgebra::{DMatrix, UnitQuaternion, Vector3};
 use reference::groove::objective_master::ObjectiveMaster;
-use reference::refusals::{load, manipulability, List, Room};
 use reference::sheet;
 use reference::spacetime::arm::Arm;
 use reference::spacetime::published_arm::Arm as PublishedArm;
@@ -20,6 +16,8 @@ const KINDS: [u16; 3] = [10, 20, 30];
 
 /// A link without length.
 const NONE: Link = [0.0, 0.0, 0.0, 1.0, 0.0, 0.0, 0.0];
+/// One up.
+const UP: Link = [0.0, 0.0, 1.0, 1.0, 0.0, 0.0, 0.0];
 /// One along x.
 const ALONG: Link = [1.0, 0.0, 0.0, 1.0, 0.0, 0.0, 0.0];
 /// Half a turn about z, without length and along x.
@@ -395,31 +393,6 @@ fn manipulability_is_that_of_a_prismatic_joint() {
     assert_eq!(five.get_manipulability_immutable(&x[..5]), 0.0);
     let six = arm(&[43, 12, 13, 11, 12, 13, 0], &[BENT; 7]);
     assert!(six.get_manipulability_immutable(&x[..6]) > 0.0);
-}
-
-/// It is listed, counts as a joint, and has a sliding joint's range.
-#[test]
-fn codes_and_values_at_their_edges() {
-    for (code, answer) in [(39, 3), (40, 0), (46, 0), (47, 3), (49, 3), (50, 3)] {
-        assert_eq!(load(&chains(&[&[code, 13]]).sheet()), answer, "{code}");
-    }
-    assert_eq!(load(&chains(&[&[43]]).sheet()), 4);
-    assert_eq!(load(&chains(&[&[40, 43]]).sheet()), 0);
-    assert_eq!(load(&chains(&[&[43; 9], &[43; 8]]).sheet()), 4);
-    assert_eq!(load(&chains(&[&[13, 13], &[43, 40, 13]]).sheet()), 4);
-    for (value, answer) in [
-        (8.0, 0),
-        (-8.0, 0),
-        (8.0f64.next_up(), 7),
-        ((-8.0f64).next_down(), 7),
-        (f64::NAN, 7),
-    ] {
-        let mut lists = chains(&[&[13, 43]]);
-        lists.joints[1] = value;
-        let joints = List::of(&lists.joints);
-        let found = manipulability(&lists.sheet(), joints, Room::of(1));
-        assert_eq!(found, answer, "{value:e}");
-    }
 }
 
 /// The published objectives and both gradients run over a mast on a turned base.
