@@ -187,8 +187,11 @@ static const double mast_floats[LINKS][RELAXED_IK_LINK_FLOATS] = {
     {0.0, 0.0, 0.1, 1.0, 0.0, 0.0, 0.0},
     {0.0, 0.0, 0.3, 1.0, 0.0, 0.0, 0.0},
 };
-static const double start[JOINTS] = {0.2, -0.3, 0.5, 0.1, 0.4, 0.1, 0.0};
-static const double taught[JOINTS] = {0.35, -0.2, 0.6, 0.05, 0.5, 0.0, 0.1};
+/* How far each joint may go, either way. The ring's hoses let it go round almost eight times; the library takes RELAXED_IK_MOST_TURN. */
+static const double reach[JOINTS] = {50.0, 2.5, 2.5, 2.5, 2.5, 2.5, 2.5};
+/* The ring has gone round six times by now, and counts on. */
+static const double start[JOINTS] = {37.9, -0.3, 0.5, 0.1, 0.4, 0.1, 0.0};
+static const double taught[JOINTS] = {38.05, -0.2, 0.6, 0.05, 0.5, 0.0, 0.1};
 static const double tolerances[6] = {0.0, 0.0, 0.05, 0.1, 0.1, 3.2};
 /* In granite the azimuth, which is of the rotation, counts for more than the depth: position, rotation, limits, velocity, acceleration, jerk,
  * manipulability, pairs. */
@@ -207,8 +210,8 @@ static void fill(void) {
     memcpy(codes.at, mast_codes, sizeof mast_codes);
     memcpy(floats.at, mast_floats, sizeof mast_floats);
     for (i = 0; i < JOINTS; i++) {
-        limits.at[2 * i] = -2.5;
-        limits.at[2 * i + 1] = 2.5;
+        limits.at[2 * i] = -reach[i];
+        limits.at[2 * i + 1] = reach[i];
     }
     memcpy(joints.at, start, sizeof start);
 }
@@ -405,10 +408,10 @@ static int survey(void) {
 static int misread(void) {
     double good = joints.at[0];
     uint32_t answer;
-    joints.at[0] = 9.0;
+    joints.at[0] = 90.0;
     memset(new_history.at, 0, sizeof new_history.at);
     answer = ASK(relaxed_ik_update(SHEET, READ(history), READ(joints), WRITE(new_history)));
-    taken("an encoder says 9 rad", answer);
+    taken("an encoder says 90 rad", answer);
     if (answer != RELAXED_IK_WRONG_JOINTS || new_history.at[0] != 0.0) return 0;
     joints.at[0] = good;
     if (!update()) return 0;

@@ -19,6 +19,11 @@
  * Lists named const are only read. Of the others the front is written; a longer list keeps its tail, and its length must be a whole number
  * of elements all the same.
  *
+ * Joints. A joint that turns, revolute or continuous, is within -64..64, so that a slew ring can count on through its turns; one that slides,
+ * prismatic or telescoping, is within -8..8. The blocks of a history are ranged as the joints are. Velocity, acceleration and jerk go by the
+ * values as they stand: a ring whose count is begun again seems to have moved, until a reset or three
+ * updates.
+ *
  * Slides. A prismatic joint moves its link along the base's axis, whatever the arm has turned before it; without axis its displacement counts
  * for nothing either. A telescoping joint is URDF's prismatic one: it moves along its own axis, as the arm and the link's own offset have
  * turned it; without axis the displacement counts and the joint moves nothing.
@@ -66,7 +71,7 @@ extern "C" {
 #define RELAXED_IK_WRONG_COUNT 4     /* under 2 joints in a chain, over 16 in all, or a later chain with more joints than chain 0 has links */
 #define RELAXED_IK_WRONG_LIMITS 5    /* not two a joint, or a pair neither -999, 999 nor within -100..100 with upper - lower >= 0.001 */
 #define RELAXED_IK_WRONG_LINK 6      /* displacement not within -10..10, or offset whose squares' sum is not within 1e-9 of 1 */
-#define RELAXED_IK_WRONG_JOINTS 7    /* joints (or history) of the wrong length, or a value not within -8..8 */
+#define RELAXED_IK_WRONG_JOINTS 7    /* joints (or history) of the wrong length, or a value not within -64..64 (turning) or -8..8 (sliding) */
 #define RELAXED_IK_WRONG_GOALS 8     /* not 13 a chain, position or tolerance not within -100..100, or rotation as in 6 */
 #define RELAXED_IK_TOO_SHORT 9       /* a list to be written is too short, or no whole number of elements */
 #define RELAXED_IK_WRONG_WEIGHTS 10  /* not eight, or a value not within 0..1000 */
@@ -112,6 +117,8 @@ extern "C" {
 #define RELAXED_IK_MOST_LINKS 64     /* of all chains */
 #define RELAXED_IK_MOST_JOINTS 16    /* of all chains */
 #define RELAXED_IK_MOST_RECORD 296   /* entries: four chains of 16 links, each with its four joints in front */
+#define RELAXED_IK_MOST_TURN 64.0    /* of a revolute or continuous joint's value, either way */
+#define RELAXED_IK_MOST_SLIDE 8.0    /* of a prismatic or telescoping one's, either way */
 
 #define RELAXED_IK_NONE_RAISED 65535 /* in the record, the joint of the first walk */
 
@@ -308,7 +315,8 @@ uint32_t relaxed_ik_gradient_one_block(
 /* The square root, correctly rounded. */
 double relaxed_ik_sqrt(double x);
 
-/* Sine and cosine, made for half joint angles, up to 4 in size. */
+/* Sine and cosine, made for half joint angles, up to 32 in size. Beyond 4.5 in size k * 6.283185307179586 is taken off first, k the whole
+ * number nearest to a / 6.283185307179586, ties to even. */
 double relaxed_ik_sin(double a);
 double relaxed_ik_cos(double a);
 

@@ -85,17 +85,31 @@ static double acos_error(double a, double b) {
     return relative(relaxed_ik_acos(a), acosl((long double)a));
 }
 
-/* Half joints and what they are raised by: half of them anywhere, a quarter in the outer tenth, the rest of every size. */
-static void half_joint(double most, Found *f) {
-    uint64_t kind = draw() % 4;
-    double a = kind < 2 ? between(0, most) : kind == 2 ? between(0.9 * most, most) : magnitude(-60, 1);
+static const double PI = 3.141592653589793;
+static const double BEYOND = 4.5 + 0x1p-50; /* the least that comes without its whole turns */
+static const double MOST = 32.0000005;      /* half of 64 and of what it is raised by */
+
+static void either_sign(double a, Found *f) {
     f->a = draw() % 2 ? a : -a;
     f->b = 0;
 }
 
-static void up_to_4(Found *f) { half_joint(4.0000005, f); }
-static void up_to_8(Found *f) { half_joint(8, f); }
-static void up_to_12(Found *f) { half_joint(12, f); }
+/* Half joints up to 4 and what they are raised by: half of them anywhere, a quarter in the outer tenth, the rest of every size. */
+static void up_to_4(Found *f) {
+    const double most = 4.0000005;
+    uint64_t kind = draw() % 4;
+    either_sign(kind < 2 ? between(0, most) : kind == 2 ? between(0.9 * most, most) : magnitude(-60, 1), f);
+}
+
+/* Half joints that are still taken as they are. */
+static void up_to_4_5(Found *f) { either_sign(between(4.0000005, 4.5), f); }
+
+/* Half joints that come without whole turns: half of them anywhere, a quarter in the outer tenth, the rest near so many half turns. */
+static void reduced(Found *f) {
+    uint64_t kind = draw() % 4;
+    double turned = (double)(2 + draw() % 9) * PI + between(-0.01, 0.01);
+    either_sign(kind < 2 ? between(BEYOND, MOST) : kind == 2 ? between(0.9 * MOST, MOST) : turned, f);
+}
 
 /* Half of them anywhere within -700..0, a quarter in the lowest tenth, the rest of every size. */
 static void exponent(Found *f) {
@@ -125,9 +139,7 @@ static void pair(Found *f) {
 /* Cosines: half of them anywhere within -1..1, a quarter near 1 in size, the rest of every size. */
 static void cosine(Found *f) {
     uint64_t kind = draw() % 4;
-    double a = kind < 2 ? unit() : kind == 2 ? 1 - magnitude(-53, -2) : magnitude(-60, -2);
-    f->a = draw() % 2 ? a : -a;
-    f->b = 0;
+    either_sign(kind < 2 ? unit() : kind == 2 ? 1 - magnitude(-53, -2) : magnitude(-60, -2), f);
 }
 
 typedef struct {
@@ -135,16 +147,16 @@ typedef struct {
     double (*error)(double, double);
     void (*next)(Found *);
     double low, high;   /* the first argument's range */
+    double least;       /* its least size */
     int two;            /* arguments */
     double notable[8];
 } Search;
 
-static const double PI = 3.141592653589793;
 static const double BELOW_1 = 1 - 0x1p-53;
 static const double SCALED = 0.99998749992187402; /* sqrt(1 - 0.005 * 0.005) */
 
 static int inside(const Search *s, double a) {
-    return a >= s->low && a <= s->high;
+    return a >= s->low && a <= s->high && fabs(a) >= s->least;
 }
 
 /* Keeps f among the worst, which stand in falling order. */
@@ -210,17 +222,17 @@ static void search(const Search *s, uint64_t count) {
 
 int main(int count, char **words) {
     const Search searches[] = {
-        {"sine", "up to 4.0000005", "absolute", sine_error, up_to_4, -4.0000005, 4.0000005, 0, {4, 4.0000005, PI, PI / 2, 1, 0}},
-        {"sine", "up to 8", "absolute", sine_error, up_to_8, -8, 8, 0, {8, 2 * PI, 0}},
-        {"sine", "up to 12", "absolute", sine_error, up_to_12, -12, 12, 0, {12, 3 * PI, 0}},
-        {"cosine", "up to 4.0000005", "absolute", cosine_error, up_to_4, -4.0000005, 4.0000005, 0, {4, 4.0000005, PI, PI / 2, 1, 0}},
-        {"cosine", "up to 8", "absolute", cosine_error, up_to_8, -8, 8, 0, {8, 2 * PI, 0}},
-        {"cosine", "up to 12", "absolute", cosine_error, up_to_12, -12, 12, 0, {12, 3 * PI, 0}},
-        {"exponential", "-700 to 0", "relative", exp_error, exponent, -700, 0, 0, {-700, -512, -1, -0.5, -0x1p-10, 0}},
-        {"atan2", "unit quaternions", "relative", atan2_error, quaternion, 0x1p-1000, 2, 1, {1, 0}},
-        {"atan2", "any n > 0, w >= 0", "relative", atan2_error, pair, 0x1p-1000, 0x1p100, 1, {1, 0x1p-30, 0x1p30, 0.41421356237309503, 2.414213562373095, 0}},
-        {"acos", "between -1 and 1", "relative", acos_error, cosine, -BELOW_1, BELOW_1, 0, {BELOW_1, 0.5, 0x1p-27, 0x1p-60, 0}},
-        {"acos", "where the sine of the angle is at least 0.005", "relative", acos_error, cosine, -SCALED, SCALED, 0, {SCALED, 0.5, 0x1p-27, 0x1p-60, 0}},
+        {"sine", "up to 4.0000005", "absolute", sine_error, up_to_4, -4.0000005, 4.0000005, 0, 0, {4, 4.0000005, PI, PI / 2, 1, 0}},
+        {"sine", "4.0000005 to 4.5", "absolute", sine_error, up_to_4_5, -4.5, 4.5, 4.0000005, 0, {4.5, 0}},
+        {"sine", "beyond 4.5, up to 32.0000005", "absolute", sine_error, reduced, -MOST, MOST, BEYOND, 0, {BEYOND, 2 * PI, 3 * PI, 5 * PI, 9 * PI, 10 * PI, 32, MOST}},
+        {"cosine", "up to 4.0000005", "absolute", cosine_error, up_to_4, -4.0000005, 4.0000005, 0, 0, {4, 4.0000005, PI, PI / 2, 1, 0}},
+        {"cosine", "4.0000005 to 4.5", "absolute", cosine_error, up_to_4_5, -4.5, 4.5, 4.0000005, 0, {4.5, 0}},
+        {"cosine", "beyond 4.5, up to 32.0000005", "absolute", cosine_error, reduced, -MOST, MOST, BEYOND, 0, {BEYOND, 2 * PI, 3 * PI, 5 * PI, 9 * PI, 10 * PI, 32, MOST}},
+        {"exponential", "-700 to 0", "relative", exp_error, exponent, -700, 0, 0, 0, {-700, -512, -1, -0.5, -0x1p-10, 0}},
+        {"atan2", "unit quaternions", "relative", atan2_error, quaternion, 0x1p-1000, 2, 0, 1, {1, 0}},
+        {"atan2", "any n > 0, w >= 0", "relative", atan2_error, pair, 0x1p-1000, 0x1p100, 0, 1, {1, 0x1p-30, 0x1p30, 0.41421356237309503, 2.414213562373095, 0}},
+        {"acos", "between -1 and 1", "relative", acos_error, cosine, -BELOW_1, BELOW_1, 0, 0, {BELOW_1, 0.5, 0x1p-27, 0x1p-60, 0}},
+        {"acos", "where the sine of the angle is at least 0.005", "relative", acos_error, cosine, -SCALED, SCALED, 0, 0, {SCALED, 0.5, 0x1p-27, 0x1p-60, 0}},
     };
     char *end;
     uint64_t many = count == 3 ? strtoull(words[1], &end, 10) : 0;

@@ -1,22 +1,24 @@
--- The cases that document 01 marks P, and some of its refusals, each computed from the definitions; what sizing answers, which weights and tools are taken, what a strict goal costs and where a telescoping joint moves among them.
+-- The cases that document 01 marks P, and some of its refusals, each computed from the definitions; what sizing answers, which weights and tools are taken, what a strict goal costs, where a telescoping joint moves and how far a joint turns among them.
 use mathlib.Core.Path.{_≡_, refl}
 use mathlib.Core.Bool.{true, false}
 use mathlib.Core.List.{List, [], _∷_, _++_, map}
 use Prim.Native.Nat.{ℕ, zero, suc, _*_}
 use lib.IntN.{negsuc}
-use lib.Ieee.{Float, nan, fin, binary64, add, sub, mul, div, neg, eq, ne, lt, le, ofInt, ofBits}
+use lib.Ieee.{Float, nan, inf, fin, binary64, add, sub, mul, div, neg, eq, ne, lt, le, ofInt, ofBits}
 use lib.ListN.{length, replicate}
 use Rattle.lists.specs.Runs.{runs}
 use Rattle.lists.specs.Listed.{listed}
 use Rattle.root.specs.Root.{rootOf}
-use Rattle.standins.specs.Num.{nought, half, one, two, whole, absOf}
+use Rattle.whole.specs.Whole.{wholeOf}
+use Rattle.standins.specs.Num.{_⊕_, _⊗_, nought, half, one, two, whole, absOf}
+use Rattle.standins.specs.Reduction.{turn, unreduced, turnedOf, reducedOf}
 use Rattle.standins.specs.Cut.{cutOf}
-use Rattle.standins.specs.Series.{downFrom, sineDivisor, cosineDivisor, termOf, seriesOf, sineOf, cosineOf, expTermOf, expSeriesOf, squarings, expOf, halvedOf, arcTermOf, arcSeriesOf, smallAngleOf, atan2Of}
+use Rattle.standins.specs.Series.{downFrom, sineDivisor, cosineDivisor, termOf, seriesOf, sineSeriesOf, cosineSeriesOf, sineOf, cosineOf, expTermOf, expSeriesOf, squarings, expOf, halvedOf, arcTermOf, arcSeriesOf, smallAngleOf, atan2Of}
 use Rattle.standins.specs.Power.{power20Of}
 use Rattle.geometry.specs.declared.vector.Vec3.{Vec3}
 use Rattle.geometry.specs.declared.quaternion.Quat.{Quat}
 use Rattle.geometry.specs.Vector.{vec, zeroOf, addOf, subOf, scaleOf, dotOf, crossOf, normOf}
-use Rattle.geometry.specs.Quaternion.{quat, productOf, inverseOf, axisOf, twiceOf, rotateOf, identityOf, quatZOf}
+use Rattle.geometry.specs.Quaternion.{quat, productOf, inverseOf, axisOf, twiceOf, rotateOf, identityOf, quatXOf, quatYOf, quatZOf}
 use Rattle.geometry.specs.declared.pose.Pose.{Pose}
 use Rattle.geometry.specs.Pose.{originOf}
 use Rattle.geometry.specs.Segment.{innerOf, endedOf, closestOf, pointOf, distanceOf}
@@ -45,7 +47,7 @@ use Rattle.one_block.specs.Record.{copyOf, recordOf, againOf, jointEntry, linkE
 use Rattle.refusals.specs.Range.{every, between, within, withinAt, squaresOf, nearOne, unitAt}
 use Rattle.refusals.specs.Lowest.{lowestFrom, lowest}
 use Rattle.refusals.specs.Lengths.{positionsLength, rotationsLength}
-use Rattle.refusals.specs.Refusal.{linksFit, badSizes, badLengths, listedKind, listedCode, listedAt, badCodes, twoJoints, laterFits, badJoints, rangedPair, pairFits, limitsFit, badLimits, linkFits, badFloats, sevenFit, badTool, toolFits, badTools, toolRefusal, toolsRefusal, loadRefusal, sizingRefusal, jointFits, valueFits, linkValueFits, eight, blockFits, badBlock, blockRefusal, weightFits, weightFitsAt, badWeights, weightsRefusal}
+use Rattle.refusals.specs.Refusal.{linksFit, badSizes, badLengths, listedKind, listedCode, listedAt, badCodes, twoJoints, laterFits, badJoints, rangedPair, pairFits, limitsFit, badLimits, linkFits, badFloats, sevenFit, badTool, toolFits, badTools, toolRefusal, toolsRefusal, loadRefusal, sizingRefusal, eight, sixtyFour, jointRange, jointFits, valueFits, linkValueFits, blockFits, badBlock, blockRefusal, historyFits, badHistory, historyRefusal, weightFits, weightFitsAt, badWeights, weightsRefusal}
 
 -- the point z above the origin, and the rotation that does not turn, as floats
 abbrev high : Float → List Float
@@ -80,6 +82,13 @@ thousand = ofBits binary64 0x408f_4000_0000_0000
 
 abbrev three : Float
 three = ofBits binary64 0x4008_0000_0000_0000
+
+-- the next floats above 8 and above 64
+abbrev above-eight : Float
+above-eight = ofBits binary64 0x4020_0000_0000_0001
+
+abbrev above-sixtyFour : Float
+above-sixtyFour = ofBits binary64 0x4050_0000_0000_0001
 
 -- a pose at height z, not turned
 abbrev straight : Float → Pose
@@ -162,7 +171,7 @@ pub record Cases : Type 0 where
   pub telescoping-joints : recordJoints four (0 ∷ 40 ∷ 43 ∷ 0 ∷ []) ≡ recordJoints four between-fixed
   -- joint 8 of a telescoping link is taken, the next float above it is not
   pub telescoping-joint : blockRefusal (40 ∷ 46 ∷ []) (eight ∷ eight ∷ []) ≡ 0
-  pub telescoping-refused : blockRefusal (40 ∷ 46 ∷ []) (eight ∷ ofBits binary64 0x4020_0000_0000_0001 ∷ []) ≡ 7
+  pub telescoping-refused : blockRefusal (40 ∷ 46 ∷ []) (eight ∷ above-eight ∷ []) ≡ 7
   -- reset a, update b, update c: c, b, a, a
   pub history : (a b c : List Float) (n : ℕ) → updateOf (updateOf (resetOf a n) b) c ≡ record { joints = n; xopt = c; «prev_state» = b; «prev_state2» = a; «prev_state3» = a }
   -- 7 joints: 32 objectives; chains of 6 and 3: 36
@@ -184,9 +193,36 @@ pub record Cases : Type 0 where
   pub least-root : rootOf (fin false 1 (negsuc 1073)) ≡ fin false 1 (negsuc 536)
   -- parallel unit segments 1 apart: 1
   pub parallel : distanceOf (vec nought nought nought) (vec one nought nought) (vec nought one nought) (vec one one nought) ≡ one
-  -- joint 8 is taken, the next float above it is not
-  pub joint-taken : blockRefusal (13 ∷ 13 ∷ []) (eight ∷ eight ∷ []) ≡ 0
-  pub joint-refused : blockRefusal (13 ∷ 13 ∷ []) (eight ∷ ofBits binary64 0x4020_0000_0000_0001 ∷ []) ≡ 7
+  -- joint 8 of a prismatic link is taken, the next float above it is not
+  pub joint-taken : blockRefusal (33 ∷ 33 ∷ []) (eight ∷ eight ∷ []) ≡ 0
+  pub joint-refused : blockRefusal (33 ∷ 33 ∷ []) (eight ∷ above-eight ∷ []) ≡ 7
+  -- a turning one has it at 64, on either side, with and without axis
+  pub turning-taken : blockRefusal (13 ∷ 26 ∷ 10 ∷ 20 ∷ []) (sixtyFour ∷ neg sixtyFour ∷ sixtyFour ∷ neg sixtyFour ∷ []) ≡ 0
+  pub turning-refused : blockRefusal (13 ∷ 26 ∷ []) (sixtyFour ∷ neg above-sixtyFour ∷ []) ≡ 7
+  pub axisless-refused : blockRefusal (10 ∷ 20 ∷ []) (sixtyFour ∷ above-sixtyFour ∷ []) ≡ 7
+  -- each joint by its own code: 64 of the ring is taken beside 8 of a slide, and not the other way round
+  pub ring-and-slide : blockRefusal (13 ∷ 33 ∷ []) (sixtyFour ∷ eight ∷ []) ≡ 0
+  pub slide-and-ring : blockRefusal (33 ∷ 13 ∷ []) (sixtyFour ∷ eight ∷ []) ≡ 7
+  -- so in the last of a history's four blocks
+  pub history-taken : historyRefusal (13 ∷ 33 ∷ []) (replicate 6 nought ++ (sixtyFour ∷ eight ∷ [])) ≡ 0
+  pub history-turn : historyRefusal (13 ∷ 33 ∷ []) (replicate 6 nought ++ (above-sixtyFour ∷ eight ∷ [])) ≡ 7
+  pub history-slide : historyRefusal (13 ∷ 33 ∷ []) (replicate 6 nought ++ (sixtyFour ∷ above-eight ∷ [])) ≡ 7
+  -- the whole number nearest 2.5 is 2, nearest 3.5 is 4, nearest -2.5 is -2
+  pub tie-down : wholeOf (ofBits binary64 0x4004_0000_0000_0000) ≡ two
+  pub tie-up : wholeOf (ofBits binary64 0x400c_0000_0000_0000) ≡ whole 4
+  pub tie-negative : wholeOf (neg (ofBits binary64 0x4004_0000_0000_0000)) ≡ neg two
+  -- 4.5 is not reduced, the next float gives -1.7831853071795853; a turn gives +0; a NaN stays, an infinity gives a NaN
+  pub unreduced-kept : (reducedOf unreduced ≡ unreduced) × (reducedOf (neg unreduced) ≡ neg unreduced)
+  pub next-reduced : (reducedOf (ofBits binary64 0x4012_0000_0000_0001) ≡ ofBits binary64 0xbffc_87ed_5110_b45c) × (reducedOf (ofBits binary64 0xc012_0000_0000_0001) ≡ ofBits binary64 0x3ffc_87ed_5110_b45c)
+  pub turn-reduced : (reducedOf turn ≡ nought) × (reducedOf (neg turn) ≡ nought)
+  pub none-reduced : (reducedOf nan ≡ nan) × (reducedOf (inf false) ≡ nan) × (reducedOf (inf true) ≡ nan)
+  -- of a turn and a half two are taken off, of two and a half two: -3.141592653589793 and 3.141592653589793
+  pub ties-reduced : (reducedOf (ofBits binary64 0x4022_d97c_7f33_21d2) ≡ ofBits binary64 0xc009_21fb_5444_2d18) × (reducedOf (ofBits binary64 0x402f_6a7a_2955_385e) ≡ ofBits binary64 0x4009_21fb_5444_2d18)
+  -- a joint at 64, raised: the half of 64.0000001 is 0.5840735141020659 beyond five turns, its sine 0.5514267229528564
+  pub raised-half : reducedOf ((sixtyFour ⊕ ofBits binary64 0x3e7a_d7f2_9abc_af48) ⊗ half) ≡ ofBits binary64 0x3fe2_b0ba_f030_e6c0
+  pub raised-sine : sineOf ((sixtyFour ⊕ ofBits binary64 0x3e7a_d7f2_9abc_af48) ⊗ half) ≡ ofBits binary64 0x3fe1_a549_a7a7_2294
+  -- codes 12, 11, identity offsets, joints -1, 31.41592653589793: i of the last rotation is +0 (ties away from zero would give -0)
+  pub tie-turned : poseOf pair (12 ∷ 11 ∷ []) (ups 2) (neg one ∷ ofBits binary64 0x403f_6a7a_2955_385e ∷ []) 1 .rotation .i ≡ nought
   -- a chain of one joint is refused, one of two is taken
   pub one-joint : loadRefusal (1 ∷ 1 ∷ []) (13 ∷ []) up free ≡ 4
   pub one-joint-sized : sizingOf tolerances (1 ∷ 1 ∷ []) (13 ∷ []) up ≡ Refused 4
@@ -252,7 +288,7 @@ poses-walked gs x = refl
 
 -- All of them, by computing both sides.
 pub cases : Cases
-unfolding recordJoints recordLinks recordOf againOf jointEntry linkEntry againAt againBelow entriesOf endIn objectives goalObjectives limitObjective motionObjectives pairObjective allPairs chainPairs pairsOf pairsFrom grooveLoss swampLoss scaledOf boundsPenalty powerOf bOf power20Of squarings expOf expSeriesOf expTermOf positionsOf rotationsOf chainPositions chainRotations positionsFrom rotationsFrom positionAt rotationAt runs poseOf beforeOf startOf afterLink valueOf linkOf isNone offsetOf signedBy alongOf turnOf jointTurn aboutOf turnedBy carriedOf ownAxisOf telescopedOf slidOf movedOf extendedOf vecAt quatAt flatVec flatQuat firstIn total chainStart hasJoint jointsOf jointOf joints kindAt kindOf originOf zeroOf identityOf productOf axisOf twiceOf rotateOf quatZOf sineOf cosineOf seriesOf termOf sineDivisor cosineDivisor downFrom rootOf distanceOf pointOf closestOf endedOf innerOf addOf subOf scaleOf dotOf crossOf normOf cutOf blockRefusal jointFits valueFits linkValueFits blockFits badBlock every between within withinAt squaresOf nearOne unitAt freeOf rangedPair pairFits limitsFit badLimits linkFits badFloats loadRefusal lowest lowestFrom badSizes linksFit badLengths badCodes listedAt listedCode listedKind badJoints twoJoints laterFits chainLength weightsRefusal badWeights weightFitsAt weightFits tipOf hasTool sevenFit toolRefusal badTool toolsRefusal badTools toolFits weightOf kindNumber goalWidth posGoalsLoss quatGoalsLoss matchEEPosGoals matchEEQuatGoals evaluateOf strictLoss minOf negativeOf distanceFrom angleFrom angleBetweenQuaternion quaternionDisp quaternionLog fromQuaternion overQuat quatNorm acosOf acuteOf oppositeOf inverseOf absOf atan2Of smallAngleOf halvedOf arcSeriesOf arcTermOf add sub mul div neg eq ne lt le ofInt ofBits sizingOf plannedIf planOf sizingRefusal positionsLength rotationsLength chainLengths listed
+unfolding recordJoints recordLinks recordOf againOf jointEntry linkEntry againAt againBelow entriesOf endIn objectives goalObjectives limitObjective motionObjectives pairObjective allPairs chainPairs pairsOf pairsFrom grooveLoss swampLoss scaledOf boundsPenalty powerOf bOf power20Of squarings expOf expSeriesOf expTermOf positionsOf rotationsOf chainPositions chainRotations positionsFrom rotationsFrom positionAt rotationAt runs poseOf beforeOf startOf afterLink valueOf linkOf isNone offsetOf signedBy alongOf turnOf jointTurn aboutOf turnedBy carriedOf ownAxisOf telescopedOf slidOf movedOf extendedOf vecAt quatAt flatVec flatQuat firstIn total chainStart hasJoint jointsOf jointOf joints kindAt kindOf originOf zeroOf identityOf productOf axisOf twiceOf rotateOf quatXOf quatYOf quatZOf sineOf cosineOf wholeOf turnedOf reducedOf sineSeriesOf cosineSeriesOf seriesOf termOf sineDivisor cosineDivisor downFrom rootOf distanceOf pointOf closestOf endedOf innerOf addOf subOf scaleOf dotOf crossOf normOf cutOf blockRefusal historyRefusal badHistory historyFits jointRange jointFits valueFits linkValueFits blockFits badBlock every between within withinAt squaresOf nearOne unitAt freeOf rangedPair pairFits limitsFit badLimits linkFits badFloats loadRefusal lowest lowestFrom badSizes linksFit badLengths badCodes listedAt listedCode listedKind badJoints twoJoints laterFits chainLength weightsRefusal badWeights weightFitsAt weightFits tipOf hasTool sevenFit toolRefusal badTool toolsRefusal badTools toolFits weightOf kindNumber goalWidth posGoalsLoss quatGoalsLoss matchEEPosGoals matchEEQuatGoals evaluateOf strictLoss minOf negativeOf distanceFrom angleFrom angleBetweenQuaternion quaternionDisp quaternionLog fromQuaternion overQuat quatNorm acosOf acuteOf oppositeOf inverseOf absOf atan2Of smallAngleOf halvedOf arcSeriesOf arcTermOf add sub mul div neg eq ne lt le ofInt ofBits sizingOf plannedIf planOf sizingRefusal positionsLength rotationsLength chainLengths listed
 cases = record {
   groove-centre = refl;
   swamp-centre = refl;
@@ -286,6 +322,25 @@ cases = record {
   parallel = refl;
   joint-taken = refl;
   joint-refused = refl;
+  turning-taken = refl;
+  turning-refused = refl;
+  axisless-refused = refl;
+  ring-and-slide = refl;
+  slide-and-ring = refl;
+  history-taken = refl;
+  history-turn = refl;
+  history-slide = refl;
+  tie-down = refl;
+  tie-up = refl;
+  tie-negative = refl;
+  unreduced-kept = (refl, refl);
+  next-reduced = (refl, refl);
+  turn-reduced = (refl, refl);
+  none-reduced = (refl, refl, refl);
+  ties-reduced = (refl, refl);
+  raised-half = refl;
+  raised-sine = refl;
+  tie-turned = refl;
   one-joint = refl;
   one-joint-sized = refl;
   two-joints = refl;

@@ -1,16 +1,20 @@
 -- Ranges, closed, and tests of every one of a run. A NaN is within no range.
 use mathlib.Core.Path.{_≡_, refl, sym, ap, _∙_}
-use mathlib.Core.Bool.{Bool, true, false, _&&_}
+use mathlib.Core.Bool.{Bool, true, false, _&&_, false≢true}
 use mathlib.Core.Logic.{⊎-elim}
 use mathlib.Core.List.{List}
-use Prim.Native.Nat.{ℕ, zero, suc, _+_, _<_}
-use native.Mathlib.Nat.{eq-or-lt-of-le}
+use Prim.Native.Nat.{ℕ, zero, suc, _+_, _*_, _≤_, _<_}
+use native.Mathlib.Nat.{eq-or-lt-of-le, le-trans, le-of-eq, lt-of-le-of-lt, lt-of-lt-of-le, mul-right-comm, mul-le-mul-right, mul-lt-mul-of-pos-right, lt-of-mul-lt-mul-right}
 use native.Mathlib.Numerals.{add-one}
 use native.Mathlib.Omega.{arith}
+use lib.IntN.{ℤ}
 use lib.Dec.{leb}
-use lib.Ieee.{Float, binary64, ofBits, neg, le, nan}
+use borrow.Author.Tests.{lt-ltb}
+use lib.Ieee.{Float, nan, inf, fin, binary64, up, down, ofBits, neg, le}
+use lib.Ieee.Fits.{down-pos}
 use lib.ListN.{getD}
 use Rattle.lists.specs.Tests.{and-true}
+use Rattle.whole.specs.Sizes.{says}
 use Rattle.standins.specs.Num.{_⊕_, _⊗_}
 
 -- every number below n passes f
@@ -66,6 +70,11 @@ module _ (f : ℕ → Bool) where
       (λ (l : suc i < suc n). every-at n i (b .0) (omega arith))
       (eq-or-lt-of-le h)
 
+pub every-from : (f : ℕ → Bool) (n : ℕ) → ((i : ℕ) → i < n → f i ≡ true) → every f n ≡ true
+unfolding every
+every-from f zero h = refl
+every-from f (suc n) h = rw (every-from f n (λ i l. h i (omega (arith, l)))) (h n (omega arith))
+
 pub every-ext : (f g : ℕ → Bool) (n : ℕ) → ((i : ℕ) → f i ≡ g i) → every f n ≡ every g n
 unfolding every
 every-ext f g zero same = refl
@@ -111,3 +120,28 @@ unfolding every
 every-across f zero n = sym (every-all n)
 every-across f (suc m) n =
     ap (λ (b : Bool). b && every (f m) n) (every-across f m n) ∙ every-both (λ (i : ℕ). every (λ (b : ℕ). f b i) m) (f m) n
+
+-- ---- laws: a range holds what a narrower one holds
+module _ (m n p : ℕ) (e f g : ℤ) (narrower : m * up e * down f < n * up f * down e) where
+  inside : p * up g * down e ≤ m * up e * down g → p * up g * down f < n * up f * down g
+  inside h =
+      lt-of-mul-lt-mul-right (down e)
+      (lt-of-le-of-lt (le-trans (le-of-eq (mul-right-comm (p * up g) (down f) (down e))) (mul-le-mul-right (down f) h))
+      (lt-of-le-of-lt (le-of-eq (mul-right-comm (m * up e) (down g) (down f)))
+      (lt-of-lt-of-le (mul-lt-mul-of-pos-right narrower (down-pos g)) (le-of-eq (mul-right-comm (n * up f) (down e) (down g))))))
+
+pub wider : (m n : ℕ) (e f : ℤ) (v : Float) → m * up e * down f < n * up f * down e → within (fin false m e) v ≡ true → within (fin false n f) v ≡ true
+unfolding within neg le
+wider m n e f nan l h = absurd (false≢true h)
+wider m n e f (inf true) l h = absurd (false≢true h)
+wider m n e f (inf false) l h = absurd (false≢true h)
+wider m n e f (fin false p g) l h =
+    let b = p * up g * down e in
+    let c = m * up e * down g in
+    let i = inside m n p e f g l (says b c b c (λ (q : b ≡ c). q) (and-true (le (fin true m e) (fin false p g)) (le (fin false p g) (fin false m e)) h .1)) in
+    rw (lt-ltb _ _ i, lt-ltb 0 (n * up f * down g + p * up g * down f) (omega (arith, i)))
+wider m n e f (fin true p g) l h =
+    let b = p * up g * down e in
+    let c = m * up e * down g in
+    let i = inside m n p e f g l (says b c c b (λ (q : c ≡ b). sym q) (and-true (le (fin true m e) (fin true p g)) (le (fin true p g) (fin false m e)) h .0)) in
+    rw (lt-ltb _ _ i, lt-ltb 0 (p * up g * down f + n * up f * down g) (omega (arith, i)))

@@ -108,9 +108,22 @@ badFloats links floats = not (every (linkFits floats) links)
 abbrev pub eight : Float
 eight = ofBits binary64 0x4020_0000_0000_0000
 
--- the value of a joint is in the range of its link's code: within -8..8 whatever the code
+-- 64
+abbrev pub sixtyFour : Float
+sixtyFour = ofBits binary64 0x4050_0000_0000_0000
+
+-- how far a joint may go to either side, by its link's kind (change 7): a revolute or continuous one 64, a sliding one 8. 8 stands for the other two: a fixed link has
+-- no joint, and a sheet with an unlisted code is refused by 3.
+unfoldable pub jointRange : Kind → Float
+jointRange Fixed = eight
+jointRange (Turning a) = sixtyFour
+jointRange (Sliding a) = eight
+jointRange (Telescoping a) = eight
+jointRange Unlisted = eight
+
+-- the value of a joint is in the range of its link's code
 unfoldable pub jointFits : ℕ → Float → Bool
-jointFits code v = within eight v
+jointFits code v = within (jointRange (kindOf code)) v
 
 -- the value at a place fits a link of that code; a fixed link has no joint and asks nothing
 unfoldable pub valueFits : ℕ → List Float → ℕ → Bool

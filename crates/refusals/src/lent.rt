@@ -3,15 +3,17 @@ use crate::lengths;
 use crate::range;
 use sheet::chain;
 use sheet::code;
+use sheet::code::Kind;
 use sheet::reader;
 ghost use mathlib.Core.Path.{_≡_};
 ghost use Prim.Native.Nat.{ℕ, _+_, _*_, _≤_};
 ghost use lib.ListN.{length};
 ghost use Rattle.refusals.specs.Range.{every};
 ghost use Rattle.refusals.specs.Lowest.{firstOf};
+ghost use Rattle.sheet.specs.Code.{kindOf};
 ghost use Rattle.sheet.specs.Chain.{jointsOf};
 ghost use Rattle.refusals.specs.Lengths.{blockLength};
-ghost use Rattle.refusals.specs.Refusal.{jointFits, valueFits, blockFits, blockRefusal, historyFits, historyRefusal, goalFits, goalsRefusal, roomRefusal, weightFits, weightsRefusal};
+ghost use Rattle.refusals.specs.Refusal.{jointRange, jointFits, valueFits, blockFits, blockRefusal, historyFits, historyRefusal, goalFits, goalsRefusal, roomRefusal, weightFits, weightsRefusal};
 
 pub fn first_of(a: u16, b: u16) -> u16
     ensures { λ r. ⌜ r ≡ firstOf a b ⌝ }
@@ -19,11 +21,24 @@ pub fn first_of(a: u16, b: u16) -> u16
     if a == 0 { b } else { a }
 }
 
-// The range of a joint, by its link's code.
+// How far a joint may go to either side.
+fn joint_range(code: u16) -> f64
+    ensures { λ r. ⌜ r ≡ jointRange (kindOf code) ⌝ }
+{
+    match code::take_apart(code) {
+        Kind::Fixed => 8.0,
+        Kind::Turning(_) => 64.0,
+        Kind::Sliding(_) => 8.0,
+        Kind::Telescoping(_) => 8.0,
+        Kind::Unlisted => 8.0,
+    }
+}
+
+// The one test of a joint's value, by its link's code.
 fn joint_fits(code: u16, value: f64) -> bool
     ensures { λ r. ⌜ r ≡ jointFits code value ⌝ }
 {
-    range::is_within(8.0, value)
+    range::is_within(joint_range(code), value)
 }
 
 fn value_fits(code: u16, list: &[f64], at: usize) -> bool
@@ -57,6 +72,10 @@ pub fn block_refusal(codes: &[u16], block: &[f64]) -> u16
 {
     if block.len() != lengths::block_length(codes) {
         return 7;
+    }
+    // What is within the narrowest range fits any code: none has to be taken apart.
+    if range::all_within(8.0, block, 0, block.len()) {
+        return 0;
     }
     if block_fits(codes, block, 0) {
         return 0;
@@ -102,6 +121,9 @@ pub fn history_refusal(codes: &[u16], history: &[f64]) -> u16
     let n = lengths::block_length(codes);
     if history.len() != 4 * n {
         return 7;
+    }
+    if range::all_within(8.0, history, 0, history.len()) {
+        return 0;
     }
     if history_fits(codes, history, n) {
         0

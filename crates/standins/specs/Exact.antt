@@ -5,17 +5,18 @@ use native.Mathlib.Nat.{le-trans, le-of-eq, le-antisymm, le-of-suc-le-suc, lt-of
 use native.Mathlib.Omega.{arith}
 use mathlib.Core.Bool.{Bool, true, false, _&&_, cond, true≢false, false≢true}
 use lib.IntN.{ℤ, pos, negsuc}
-use lib.Dec.{T, leb, ltb, eqb, ltb→lt, leb→le, eqb→eq}
+use lib.Dec.{T, ltb, eqb}
 use borrow.Author.Tests.{ltb-true, eqb-true, lt-ltb, le-ltb, eq-eqb}
 use lib.Pow.{pow-add, pow-pos, pow-lt}
 use lib.Ieee.{Float, nan, inf, fin, Format, binary64, prec, emax, low, unlike, up, down, size, nearest, odd, units, round, neg, sum, add, mul, fits, hid, top, ofBits, toBits}
 use lib.Ieee.Digits.{back, size-lt, size-reaches}
-use lib.Ieee.Fits.{and-l, and-r, up-pos, down-pos, two, two-le-pos, round-is, round-fits}
+use lib.Ieee.Fits.{up-pos, down-pos, two, two-le-pos, round-is, round-fits}
 use lib.Ieee.Exact.{HasValue, odd-sign, round-exact}
 use lib.Ieee.Nearest.{div-same, nearest-ge}
 use lib.Ieee.Order.{transfer}
 use lib.Ieee.Scale.{round-same}
 use lib.Ieee.Bits.{ofBits-toBits}
+use Rattle.whole.specs.Fits.{fits-says}
 use Rattle.standins.specs.Num.{_⊕_, _⊗_, nought, one}
 
 -- ---- one value for each number
@@ -40,25 +41,6 @@ pub value-unique : (f : Format) (x y : Float) (s : Bool) (a c : ℕ) → 0 < c �
 value-unique f x y s a c C h k p q = sym (ofBits-toBits f x h) ∙ ap (ofBits f) (same-bits f x y s a c C p q) ∙ ofBits-toBits f y k
 
 -- ---- a value of a format, in its smallest units
--- what `fits` says of the size of m and e
-fits-says : (f : Format) (s : Bool) (m : ℕ) (e : ℤ) → T (fits f (fin s m e)) → (m < 2 ^ prec f) × (down e ≤ 2 ^ low f) × (m * up e < 2 ^ suc (emax f) * down e)
-unfolding fits
-fits-says f s zero e t = (
-  pow-pos (prec f),
-  le-trans (le-of-eq (sym (one-mul (down e)))) (le-trans (mul-le-mul-right (down e) (up-pos e)) (le-trans (le-of-eq (eqb→eq (up e * down e) 1 t)) (pow-pos (low f)))),
-  subst (λ (x : ℕ). x < 2 ^ suc (emax f) * down e) (sym (zero-mul (up e))) (mul-pos (pow-pos (suc (emax f))) (down-pos e)),
-)
-fits-says f s (suc m) e t =
-    let a = eqb (suc m % 2) 1 in
-    let b = ltb (suc m) (2 ^ prec f) in
-    let c = leb (down e) (2 ^ low f) in
-    let d = ltb (suc m * up e) (2 ^ suc (emax f) * down e) in
-    let abc : T (a && b && c) = and-l (a && b && c) d t in (
-      ltb→lt (suc m) (2 ^ prec f) (and-r a b (and-l (a && b) c abc)),
-      leb→le (down e) (2 ^ low f) (and-r (a && b) c abc),
-      ltb→lt (suc m * up e) (2 ^ suc (emax f) * down e) (and-r (a && b && c) d t),
-    )
-
 no-longer : (i j : ℕ) → 2 ^ i ≤ 2 ^ j → i ≤ j
 no-longer i j h = le-of-suc-le-suc (lt-of-not-le (λ (g : suc j ≤ i). not-le-of-lt (pow-lt g) h))
 

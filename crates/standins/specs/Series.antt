@@ -1,4 +1,4 @@
--- Sine, cosine, exponential and atan2 of document 01. Each operation rounds once, left to right.
+-- Sine, cosine, exponential and atan2 of document 01, sine and cosine with change 7. Each operation rounds once, left to right.
 use mathlib.Core.Path.{_≡_, refl, ap, fun-ext, _∙_}
 use mathlib.Core.Bool.{false, cond}
 use Prim.Native.Nat.{ℕ, zero, suc, _+_, _-_, _*_, _≤_, _<_}
@@ -8,7 +8,8 @@ use lib.Ieee.{Float, nan, binary64, ofInt, ofBits, neg, lt, ne}
 use lib.Ieee.Exact.{HasValue}
 use lib.Ieee.Back.{round-whole}
 use Rattle.root.specs.Root.{rootOf}
-use Rattle.standins.specs.Num.{_⊕_, _⊖_, _⊗_, _⊘_, nought, one, whole}
+use Rattle.standins.specs.Num.{_⊕_, _⊖_, _⊗_, _⊘_, nought, one, whole, absOf}
+use Rattle.standins.specs.Reduction.{unreduced, reducedOf, kept}
 use Rattle.standins.specs.declared.series.BothSeries.{BothSeries}
 use Rattle.standins.specs.declared.series.SineCosine.{SineCosine}
 
@@ -40,11 +41,18 @@ unfoldable pub seriesOf : (ℕ → Float) → Float → Float
 seriesOf d q = downFrom (termOf d q) 16 one
 
 -- of q = a·a: a·s, and s
+unfoldable pub sineSeriesOf : Float → Float
+sineSeriesOf a = a ⊗ seriesOf sineDivisor (a ⊗ a)
+
+unfoldable pub cosineSeriesOf : Float → Float
+cosineSeriesOf a = seriesOf cosineDivisor (a ⊗ a)
+
+-- of the reduced angle (change 7)
 unfoldable pub sineOf : Float → Float
-sineOf a = a ⊗ seriesOf sineDivisor (a ⊗ a)
+sineOf a = sineSeriesOf (reducedOf a)
 
 unfoldable pub cosineOf : Float → Float
-cosineOf a = seriesOf cosineDivisor (a ⊗ a)
+cosineOf a = cosineSeriesOf (reducedOf a)
 
 -- a, and both series of its square
 abbrev pub bothSeriesOf : Float → BothSeries
@@ -113,18 +121,28 @@ pub divisor-exact : (k : ℕ) → k ≤ 32 → HasValue (divisorOf k) false (k *
 unfolding ofInt
 divisor-exact k h = round-whole binary64 false (k * (k + 1)) (omega (arith, divisor-most k h))
 
--- sine and cosine are the series of document 01's two products
-pub sine-stated : (a : Float) → sineOf a ≡ a ⊗ seriesOf (λ n. whole (2 * n * (2 * n + 1))) (a ⊗ a)
-unfolding sineOf sineDivisor
+-- both series are those of document 01's two products
+pub sine-stated : (a : Float) → sineSeriesOf a ≡ a ⊗ seriesOf (λ n. whole (2 * n * (2 * n + 1))) (a ⊗ a)
+unfolding sineSeriesOf sineDivisor
 sine-stated a = refl
 
-pub cosine-stated : (a : Float) → cosineOf a ≡ seriesOf (λ n. whole ((2 * n - 1) * (2 * n))) (a ⊗ a)
-unfolding cosineOf cosineDivisor
+pub cosine-stated : (a : Float) → cosineSeriesOf a ≡ seriesOf (λ n. whole ((2 * n - 1) * (2 * n))) (a ⊗ a)
+unfolding cosineSeriesOf cosineDivisor
 cosine-stated a = ap (λ (d : ℕ → Float). seriesOf d (a ⊗ a)) (fun-ext (λ n. ap whole (product n)))
   where
     product : (n : ℕ) → (2 * n - 1) * (2 * n - 1 + 1) ≡ (2 * n - 1) * (2 * n)
     product zero = refl
     product (suc n) = let k : 2 * suc n - 1 + 1 ≡ 2 * suc n = omega arith in ap (λ (m : ℕ). (2 * suc n - 1) * m) k
+
+-- ---- laws: what change 7 leaves alone
+-- at or below 4.5 in size, and of a NaN, sine and cosine are the series of a itself, as document 01 has them
+pub sine-kept : (a : Float) → lt unreduced (absOf a) ≡ false → sineOf a ≡ sineSeriesOf a
+unfolding sineOf
+sine-kept a h = ap sineSeriesOf (kept a h)
+
+pub cosine-kept : (a : Float) → lt unreduced (absOf a) ≡ false → cosineOf a ≡ cosineSeriesOf a
+unfolding cosineOf
+cosine-kept a h = ap cosineSeriesOf (kept a h)
 
 -- ---- laws: a loop that counts down
 

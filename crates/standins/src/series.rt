@@ -1,6 +1,8 @@
 // Sine, cosine, the exponential and the arc tangent: each a series worked out from its last term down, one rounding for each operation.
+use crate::reduction;
 ghost use mathlib.Core.Path.{_≡_};
 ghost use Prim.Native.Nat.{_≤_};
+ghost use Rattle.standins.specs.Reduction.{reducedOf};
 ghost use Rattle.standins.specs.Series.{divisorOf, sineOf, cosineOf, sineCosineOf, bothSeriesOf, expSeriesOf, squarings, expOf, halvedOf, arcSeriesOf, smallAngleOf, atan2Of};
 
 // k·(k+1), the divisor of both series: k is even in the sine, odd in the cosine.
@@ -11,7 +13,7 @@ fn divisor(k: usize) -> f64
     (k * (k + 1)) as f64
 }
 
-// An angle, and the series of the sine and of the cosine of its square.
+// The reduced angle, and the series of the sine and of the cosine of its square.
 struct BothSeries {
     angle: f64,
     sine: f64,
@@ -20,9 +22,10 @@ struct BothSeries {
 
 // Both in one loop: the two chains of divisions do not wait for each other, and one instruction divides for both.
 fn both_series(a: f64) -> BothSeries
-    ensures { λ r. ⌜ r ≡ bothSeriesOf a ⌝ }
+    ensures { λ r. ⌜ r ≡ bothSeriesOf (reducedOf a) ⌝ }
 {
-    let q = a * a;
+    let angle = reduction::reduced(a);
+    let q = angle * angle;
     let mut s = 1.0;
     let mut c = 1.0;
     let mut n: usize = 16;
@@ -32,7 +35,7 @@ fn both_series(a: f64) -> BothSeries
         n -= 1;
     }
     BothSeries {
-        angle: a,
+        angle: angle,
         sine: s,
         cosine: c,
     }
@@ -44,7 +47,6 @@ pub struct SineCosine {
     pub cosine: f64,
 }
 
-// Good for |a| up to about 4, as are the two alone.
 pub fn sine_cosine(a: f64) -> SineCosine
     ensures { λ r. ⌜ r ≡ sineCosineOf a ⌝ }
 {

@@ -4,7 +4,8 @@ use mathlib.Core.Bool.{false}
 use lib.Ieee.{Float, nan, binary64, add, sub, mul, div, neg, lt, le, eq, ofInt, ofBits}
 use Rattle.root.specs.Root.{rootOf}
 use Rattle.standins.specs.Num.{nought, one, absOf}
-use Rattle.standins.specs.Series.{downFrom, sineDivisor, termOf, seriesOf, sineOf, halvedOf, arcTermOf, arcSeriesOf, smallAngleOf, quarterTurn, atan2Of}
+use Rattle.standins.specs.Reduction.{reducedOf}
+use Rattle.standins.specs.Series.{downFrom, sineDivisor, termOf, seriesOf, sineSeriesOf, sineOf, halvedOf, arcTermOf, arcSeriesOf, smallAngleOf, quarterTurn, atan2Of}
 use Rattle.geometry.specs.declared.quaternion.Quat.{Quat}
 use Rattle.geometry.specs.Vector.{vec}
 use Rattle.geometry.specs.Quaternion.{quat, axisOf}
@@ -35,5 +36,5 @@ log-nan i j k = refl
 
 -- w = -0.99999: acos(w) is nearly π, and its sine under 0.005
 pub log-near-minus-one : (i j k : Float) → quaternionLog (quat (ofBits binary64 0xbfef_ffeb_074a_771d) i j k) ≡ vec i j k
-unfolding quaternionLog axisOf acosOf acuteOf oppositeOf rootOf absOf atan2Of smallAngleOf halvedOf arcSeriesOf arcTermOf sineOf seriesOf sineDivisor termOf downFrom add sub mul div lt le eq ofInt ofBits
+unfolding quaternionLog axisOf acosOf acuteOf oppositeOf rootOf absOf atan2Of smallAngleOf halvedOf arcSeriesOf arcTermOf sineOf reducedOf sineSeriesOf seriesOf sineDivisor termOf downFrom add sub mul div lt le eq ofInt ofBits
 log-near-minus-one i j k = refl

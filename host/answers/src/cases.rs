@@ -5,6 +5,7 @@
 use crate::arms::{asked, Call, Counts, Lent, List, CALLS};
 use crate::record::{u16_bytes, Record};
 use draw::Draw;
+use reference::refusals::{reach, u16s};
 use reference::sheet;
 
 use List::{Codes, Floats, Goals, History, Joints, Limits, Sizes};
@@ -36,6 +37,11 @@ pub const LARGE: [Shape; 2] = [
 /// A sheet of this shape with drawn numbers; everything near everything else,
 /// where the losses are not all tail.
 pub fn lent(shape: &[&[u16]], draw: &mut Draw) -> Lent {
+    lent_at(shape, draw, |draw, _| draw.between(-2.5, 2.5))
+}
+
+/// The same with joints that are drawn by their codes.
+pub fn lent_at(shape: &[&[u16]], draw: &mut Draw, joint: fn(&mut Draw, u16) -> f64) -> Lent {
     let codes = shape.concat();
     let again = |chain: &&[u16]| -> usize {
         let joints = chain.iter().enumerate().filter(|(_, &code)| code != 0);
@@ -59,9 +65,8 @@ pub fn lent(shape: &[&[u16]], draw: &mut Draw) -> Lent {
     lent.set(Floats, floats.as_flattened());
     let limits: Vec<[f64; 2]> = (0..counts.joints).map(|_| limits(draw)).collect();
     lent.set(Limits, limits.as_flattened());
-    let joints: Vec<f64> = (0..counts.joints)
-        .map(|_| draw.between(-2.5, 2.5))
-        .collect();
+    let moving = codes.iter().filter(|&&code| code != 0);
+    let joints: Vec<f64> = moving.map(|&code| joint(draw, code)).collect();
     aim(&mut lent, &sizes, &codes, &joints, draw);
     lent
 }
@@ -143,7 +148,7 @@ fn long(call: Call, lent: &Lent) -> Vec<usize> {
 }
 
 /// Accepted: drawn sheets with exact and with long outputs, then joints at the
-/// ends of their range and of both zeros.
+/// ends of a slide's range and of both zeros.
 fn accepted(call: Call, draw: &mut Draw, records: &mut Vec<Record>) {
     for shape in SHAPES {
         let lent = lent(shape, draw);
@@ -173,6 +178,15 @@ pub fn put(lent: &mut Lent, list: List, at: usize, value: f64) {
 
 pub fn put_u16(lent: &mut Lent, list: List, at: usize, value: u16) {
     lent.bytes[list as usize][2 * at..2 * at + 2].copy_from_slice(&value.to_le_bytes());
+}
+
+/// Puts the float next beyond a joint's range in its place in a block.
+pub fn put_beyond(lent: &mut Lent, list: List, at: usize, sign: f64) {
+    let mut codes = Vec::new();
+    u16s(lent.get(Codes), &mut codes);
+    codes.retain(|&code| code != 0);
+    let reach = reach(codes[at % codes.len()]);
+    put(lent, list, at, sign * reach.next_up());
 }
 
 /// Cuts bytes off a list's end.
@@ -207,10 +221,10 @@ pub const FAULTS: [Fault; 30] = [
     (6, Floats, |l| put(l, Floats, 9, 10.0f64.next_up())),
     (6, Floats, |l| put(l, Floats, 0, f64::NAN)),
     (6, Floats, |l| put(l, Floats, 3, 1.1)),
-    (7, Joints, |l| put(l, Joints, 1, 8.0f64.next_up())),
+    (7, Joints, |l| put_beyond(l, Joints, 1, 1.0)),
     (7, Joints, |l| cut(l, Joints, 8)),
     (7, Joints, |l| put(l, Joints, 0, f64::NAN)),
-    (7, History, |l| put(l, History, 7, (-8.0f64).next_down())),
+    (7, History, |l| put_beyond(l, History, 7, -1.0)),
     (7, History, |l| cut(l, History, 4)),
     (8, Goals, |l| cut(l, Goals, 8)),
     (8, Goals, |l| put(l, Goals, 2, 100.0f64.next_up())),

@@ -51,7 +51,7 @@ fn gram(columns: &[f64]) -> Vec<f64> {
 }
 
 /// A leaf by its number in the stored list.
-fn answer(call: u16, x: &[f64]) -> Vec<f64> {
+pub fn answer(call: u16, x: &[f64]) -> Vec<f64> {
     match call {
         11 => vec![sqrt(x[0])],
         12 => vec![sin(x[0])],

@@ -16,6 +16,8 @@ mod strict_sequences;
 mod telescoping;
 mod tool_sequences;
 mod tools;
+mod turn_sequences;
+mod turns;
 mod weight_sequences;
 mod weights;
 
@@ -60,6 +62,7 @@ fn records(kind: Kind) -> Vec<Record> {
             records.extend(tools::all(&mut draw));
             records.extend(strict::all(&mut draw));
             records.extend(telescoping::all(&mut draw));
+            records.extend(turns::all(&mut draw));
             records
         }
         Kind::Sequences => {
@@ -68,6 +71,7 @@ fn records(kind: Kind) -> Vec<Record> {
             records.extend(tool_sequences::all(&mut draw));
             records.extend(strict_sequences::all(&mut draw));
             records.extend(strict_sequences::telescoping(&mut draw));
+            records.extend(turn_sequences::all(&mut draw));
             records
         }
     }
@@ -162,6 +166,31 @@ mod tests {
         (Kind::Sequences, 1740, 467_494, 0x5da1_dc08_55bb_ef23),
     ];
 
+    const BEFORE_TURNS: Before = [
+        (Kind::Calls, 1652, 549_771, 0x0f7e_b4f5_334f_e932),
+        (Kind::Sequences, 1888, 505_554, 0x0a73_cc15_a8af_08ce),
+    ];
+
+    /// A turning joint's range ends at 64 where it ended at 8, and sine and cosine answer
+    /// otherwise beyond 4.5.
+    fn without_turns(kind: Kind, record: &mut Record) {
+        let [beyond, before] = [64.0f64, 8.0].map(f64::next_up);
+        for float in record
+            .lists
+            .iter_mut()
+            .flat_map(|list| list.chunks_exact_mut(8))
+        {
+            for sign in [1.0, -1.0] {
+                if *float == (sign * beyond).to_le_bytes() {
+                    float.copy_from_slice(&(sign * before).to_le_bytes());
+                }
+            }
+        }
+        if kind == Kind::Calls {
+            turns::undo(record);
+        }
+    }
+
     /// 47 stands for an unlisted code where 40 stood, which change 6 lists.
     fn with_forty(kind: Kind, record: &mut Record) {
         if kind == Kind::Calls && record.call == arms::Call::Sizing as u16 {
@@ -205,7 +234,8 @@ mod tests {
     fn older_records_keep_their_bytes() {
         type Without = fn(Kind, &mut Record);
         // The latest first.
-        let changes: [(Before, Without); 4] = [
+        let changes: [(Before, Without); 5] = [
+            (BEFORE_TURNS, without_turns),
             (BEFORE_TELESCOPING, with_forty),
             (BEFORE_STRICT, without_pick),
             (BEFORE_TOOLS, without_tools),

@@ -473,7 +473,7 @@ fn next(state: &State, draw: &mut Draw) -> Step {
     }
 }
 
-/// Lists near those of the arms: other joints, both ends of their range and
+/// Lists near those of the arms: other joints, both ends of a slide's range and
 /// both zeros among them.
 pub fn near(own: &Lent, draw: &mut Draw) -> Lent {
     let mut near = own.clone();

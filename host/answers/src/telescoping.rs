@@ -33,7 +33,7 @@ const WALKS: [(Call, usize); 8] = [
 /// Those that only look at the arms.
 const LOOKS: [Call; 2] = [Call::Load, Call::Sizing];
 
-/// At drawn joints under either pick, and at the ends of their range and both zeros.
+/// At drawn joints under either pick, and at the ends of a slide's range and both zeros.
 fn accepted(draw: &mut Draw, records: &mut Vec<Record>) {
     let mut ask = |call, lent: &Lent| records.push(asked(call, lent, &exact(call, lent)));
     for (call, shapes) in WALKS {

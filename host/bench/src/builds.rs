@@ -4,6 +4,8 @@
 //! the machine meets both alike or few batches at all, and medians leave those out.
 
 use crate::timing::{at_quarter, nanoseconds, pass};
+use relaxed_ik::leaves;
+use std::f64::consts::TAU;
 use std::hint::black_box;
 
 /// Pairs of batches at each place of the stack. A batch follows one of the other
@@ -57,6 +59,19 @@ pub fn all_have_strict() -> bool {
         .all(linked::has_strict);
     #[cfg(not(feature = "two_builds"))]
     true
+}
+
+/// Whether every build that is linked takes whole turns off an angle before its series
+/// see it: of one turn nothing is left then.
+pub fn all_take_turns_off() -> bool {
+    let nothing_left = || leaves::sin(TAU) == 0.0;
+    #[cfg(feature = "two_builds")]
+    return [Build::Before, Build::After].into_iter().all(|build| {
+        take(build);
+        nothing_left()
+    });
+    #[cfg(not(feature = "two_builds"))]
+    nothing_left()
 }
 
 /// Nanoseconds a call before and after, and their ratio.

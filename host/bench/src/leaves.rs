@@ -1,5 +1,6 @@
 //! The functions on numbers.
 
+use crate::builds::all_take_turns_off;
 use crate::{digits, Draw, Rows};
 use nalgebra::{DMatrix, Point3, Quaternion, UnitQuaternion, Vector3};
 use parry3d_f64::{query, shape::Segment};
@@ -44,6 +45,26 @@ fn standins(rows: &mut Rows, draw: &mut Draw) {
         &sides,
         |[n, w]| leaves::atan2(*n, *w),
         |[n, w]| standins::atan2(*n, *w),
+    );
+}
+
+/// Sine and cosine of angles that have whole turns to be taken off.
+pub fn turns(rows: &mut Rows, draw: &mut Draw) {
+    if !all_take_turns_off() {
+        return;
+    }
+    let angles = draw.inputs(|d| d.between(4.5, 32.0).copysign(d.between(-1.0, 1.0)));
+    rows.row(
+        "sin beyond 4.5",
+        &angles,
+        |a| leaves::sin(*a),
+        |a| standins::sin(*a),
+    );
+    rows.row(
+        "cos beyond 4.5",
+        &angles,
+        |a| leaves::cos(*a),
+        |a| standins::cos(*a),
     );
 }
 

@@ -238,12 +238,14 @@ fn ratios(file: &str) -> ExitCode {
     }
 }
 
-/// Every row, once. What came with the strict list draws for itself, so that the
-/// others keep their inputs.
+/// Every row, once. What came with the strict list and with turns draws for itself, so
+/// that the others keep their inputs.
 fn all(rows: &mut Rows) {
     let mut draw = Draw(0x9e37_79b9_7f4a_7c15);
     let mut rotations = Draw(0xbf58_476d_1ce4_e5b9);
+    let mut turns = Draw(0x94d0_49bb_1331_11eb);
     leaves::rows(rows, &mut draw);
+    leaves::turns(rows, &mut turns);
     leaves::rotations(rows, &mut rotations);
     #[cfg(feature = "objective")]
     objective::losses(rows, &mut draw);

@@ -2,12 +2,14 @@
 //! compared: its edges and its draws.
 
 use crate::calls::{exact, fitted, Call};
+use crate::draw::half_turns;
 use crate::run::Run;
 use crate::sheets::{damages, Damage, Fit, List, Lists, Shape, CODES};
 use crate::source::{Source, READ, WEIGHTS, WRITTEN};
 use crate::target::{Target, ARMS, SETTING, SET_TOOL, SIZING};
 use crate::trial::Trial;
 use crate::{strict, tools, weights};
+use reference::refusals::BLOCKS;
 
 pub fn targets() -> Vec<Target> {
     let arms = |name, about, kinds, run| Target::new(name, about, ARMS, kinds, run);
@@ -53,6 +55,10 @@ pub fn all(run: &mut Run, call: Call) {
             telescoping(run, &mut trial);
             every_code(run, &mut trial);
         }
+        if call.own().contains(&List::Joints) {
+            reaches(run, &mut trial);
+            turns(run, &mut trial);
+        }
         every_fault(run, &mut trial);
         if call.read().contains(&List::Weights) {
             weights::edges(run, &mut trial);
@@ -82,12 +88,6 @@ fn named(run: &mut Run, trial: &mut Trial) {
         trial.check(run, &lists, &exact(call, &lists));
     };
     let two = vec![vec![13, 12]];
-    // Joint 8 is taken, the next float above refused.
-    for v in [8.0, 8.0f64.next_up(), -8.0, (-8.0f64).next_down()] {
-        for joints in [[v, 0.5], [0.5, v]] {
-            plain(run, &two, &|lists| lists.set_floats(List::Joints, &joints));
-        }
-    }
     // One joint is refused, two are taken.
     for chain in [vec![13], vec![0, 13, 0], vec![0, 13, 0, 12], vec![13, 13]] {
         plain(run, &vec![chain.clone()], &|_| {});
@@ -116,41 +116,82 @@ fn named(run: &mut Run, trial: &mut Trial) {
     plain(run, &vec![long; 4], &|_| {});
 }
 
-/// A telescoping joint counts as any other, and its range is a sliding one's.
+/// A telescoping joint counts as any other.
 fn telescoping(run: &mut Run, trial: &mut Trial) {
     let call = trial.call;
-    let mut check = |run: &mut Run, shape: &Shape, joints: Option<[f64; 2]>| {
+    let mut check = |run: &mut Run, shape: &Shape| {
         let mut lists = Lists::plain(shape, &mut run.draw);
         call.renew(&mut lists, &mut run.draw);
-        if let Some(joints) = joints {
-            lists.set_floats(List::Joints, &joints);
-        }
         trial.check(run, &lists, &exact(call, &lists));
     };
-    for chain in [vec![33, 43], vec![46, 10], vec![40, 41]] {
-        for v in [8.0, 8.0f64.next_up(), -8.0, (-8.0f64).next_down()] {
-            for joints in [[v, 0.5], [0.5, v]] {
-                check(run, &vec![chain.clone()], Some(joints));
-            }
-        }
-    }
     for chain in [vec![43], vec![0, 40, 0], vec![0, 40, 0, 43], vec![43, 43]] {
-        check(run, &vec![chain.clone()], None);
-        check(run, &vec![vec![13; 4], chain], None);
+        check(run, &vec![chain.clone()]);
+        check(run, &vec![vec![13; 4], chain]);
     }
     for first in 0..=18 {
-        check(run, &vec![vec![43; first]], None);
+        check(run, &vec![vec![43; first]]);
         for second in 0..=17 {
-            check(run, &vec![vec![43; first], vec![40; second]], None);
+            check(run, &vec![vec![43; first], vec![40; second]]);
         }
     }
     let mut long = vec![0; 16];
     (long[0], long[3], long[7], long[15]) = (11, 42, 40, 46);
-    check(run, &vec![long; 4], None);
+    check(run, &vec![long; 4]);
+}
+
+/// Document 01's case at 8 is a sliding joint's, and a turning one has it at 64: taken
+/// there, and the next float refused, in the block and in each block of a history. Every
+/// code meets both ends.
+fn reaches(run: &mut Run, trial: &mut Trial) {
+    let call = trial.call;
+    let mut places = vec![(List::Joints, 0)];
+    if call.own().contains(&List::History) {
+        places.extend((0..BLOCKS).map(|block| (List::History, block)));
+    }
+    let ends = [8.0, 8.0f64.next_up(), 64.0, 64.0f64.next_up()];
+    for &code in &CODES[1..] {
+        for (at, chain) in [[code, 33], [13, code]].into_iter().enumerate() {
+            for v in ends.into_iter().flat_map(|v| [v, -v]) {
+                for &(list, block) in &places {
+                    let mut lists = Lists::plain(&vec![chain.to_vec()], &mut run.draw);
+                    call.renew(&mut lists, &mut run.draw);
+                    lists.put(list, chain.len() * block + at, &[v]);
+                    trial.check(run, &lists, &exact(call, &lists));
+                }
+            }
+        }
+    }
+}
+
+/// Joints that have turned on: where half of one begins to be reduced, at every number of
+/// half turns, and at the floats beside. Behind -1 about y the case at ten half turns
+/// about x shows in the sign of a zero how a tie is taken.
+fn turns(run: &mut Run, trial: &mut Trial) {
+    let call = trial.call;
+    let mut check = |run: &mut Run, mut lists: Lists, joints: &dyn Fn(&mut Lists)| {
+        call.renew(&mut lists, &mut run.draw);
+        joints(&mut lists);
+        trial.check(run, &lists, &exact(call, &lists));
+    };
+    let six = vec![vec![13, 12, 11, 26, 25, 24, 33]];
+    let reached = half_turns().into_iter().take_while(|&angle| angle <= 64.0);
+    for angle in reached.chain([9.0]) {
+        let around = [angle, angle.next_up(), angle.next_down()];
+        for v in around.into_iter().flat_map(|v| [v, -v]) {
+            let two = Lists::plain(&vec![vec![12, 11]], &mut run.draw);
+            check(run, two, &|lists| {
+                lists.set_floats(List::Joints, &[-1.0, v])
+            });
+            let still = Lists::still(&six, &mut run.draw);
+            check(run, still, &|lists| lists.set_joints(v));
+            let drawn = Lists::of(&six, &mut run.draw);
+            check(run, drawn, &|lists| lists.set_joints(v));
+        }
+    }
 }
 
 /// Every two codes before six turning links or behind them, so that manipulability is
-/// not 0, at joints of every sign.
+/// not 0, at joints of every sign and at the ends of their range.
 fn every_code(run: &mut Run, trial: &mut Trial) {
     let call = trial.call;
     for a in CODES {
@@ -165,9 +206,9 @@ fn every_code(run: &mut Run, trial: &mut Trial) {
                 }
                 lists = Lists::of(&vec![chain], &mut run.draw);
                 call.renew(&mut lists, &mut run.draw);
-                for v in [8.0, -8.0, 0.0, -0.0, 0.5] {
+                for v in [64.0, -64.0, 8.0, -8.0, 0.0, -0.0, 0.5] {
                     if call.own().contains(&List::Joints) {
-                        lists.set_floats(List::Joints, &vec![v; lists.joints]);
+                        lists.set_joints(v);
                     }
                     trial.check(run, &lists, &exact(call, &lists));
                 }
@@ -239,6 +280,28 @@ fn fits(outputs: usize) -> Vec<Vec<Fit>> {
 #[cfg(test)]
 mod tests {
     use super::*;
+    use crate::draw::kind::Kind;
+    use crate::run::Block;
+    use std::collections::BTreeMap;
+
+    /// Of the 14 codes that turn all ends are taken but one float beyond 64, of the 14
+    /// that slide 8 alone; of either sign, in two places.
+    #[test]
+    fn joints_end_where_the_papers_say() {
+        let edges = Block {
+            target: 0,
+            kind: Kind::Edges,
+            number: 0,
+            draws: 0,
+        };
+        for (call, blocks) in [(Call::Frames, 1), (Call::Update, 1 + 4)] {
+            let mut run = Run::new(1, &edges, 1);
+            reaches(&mut run, &mut Trial::new(call, Call::ask));
+            let (taken, refused) = (14 * 3 + 14, 14 + 14 * 3);
+            let counts = [(0, taken), (7, refused)].map(|(number, n)| (number, n * 4 * blocks));
+            assert_eq!(run.finish().answers, BTreeMap::from(counts), "{call:?}");
+        }
+    }
 
     /// Every two outputs meet with every two fits.
     #[test]

@@ -2,6 +2,7 @@
 
 use crate::draw::kind::{Kind, Kinds};
 use crate::draw::{grid, Draw, CORNERS, SIGNS};
+use crate::numbers::{half_angle, singles, ANGLE};
 use crate::run::Run;
 use crate::target::Target;
 use nalgebra::{Point3, Quaternion, UnitQuaternion, Vector3};
@@ -21,7 +22,6 @@ const VECTORS: Kinds = &[
     (Kind::Small, 1),
     (Kind::Any, 1),
 ];
-const ANGLES: Kinds = &[(Kind::Range, 1), (Kind::Any, 1)];
 const SEGMENTS: Kinds = &[
     (Kind::Range, 1),
     (Kind::Border, 12),
@@ -47,7 +47,7 @@ pub fn targets() -> Vec<Target> {
         leaf("rotate", "a vector rotated", QUATERNIONS, rotate),
         leaf("cross", "cross product", VECTORS, cross),
         leaf("norm", "length of a vector", VECTORS, norm),
-        leaf("get_quat", "rotation about x, y or z", ANGLES, get_quat),
+        leaf("get_quat", "rotation about x, y or z", ANGLE, get_quat),
         leaf(
             "scaled_axis",
             "scaled axis of a quaternion",
@@ -165,18 +165,19 @@ fn norm(run: &mut Run) {
     );
 }
 
-/// The axis goes first as a number, so that a difference shows it.
+/// The axis goes first as a number, so that a difference shows it. The angle is twice
+/// what sine and cosine are asked.
 fn get_quat(run: &mut Run) {
     let axes = [0.0, 1.0, 2.0];
-    let edges = run.draw.edges();
+    let edges = singles(&run.draw);
     run.function(
         axes.iter()
-            .flat_map(|&a| edges.iter().map(move |&v| [a, v])),
+            .flat_map(|&a| edges.iter().map(move |&[v]| [a, v])),
         |draw, kind| {
             let axis = draw.pick(&axes);
             let v = match kind {
                 Kind::Any => draw.any(),
-                _ => draw.between(-8.000001, 8.000001),
+                _ => 2.0 * half_angle(draw, kind),
             };
             [axis, v]
         },

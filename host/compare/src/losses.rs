@@ -229,7 +229,7 @@ fn under_tolerance(run: &mut Run, proved: fn(f64, f64) -> f64, reference: fn(f64
 fn limits(run: &mut Run) {
     let mut values = with_neighbours(&FREE);
     values.extend(CORNERS);
-    values.extend([0.001, 8.0, -8.0, 100.0, -100.0]);
+    values.extend([0.001, 8.0, -8.0, 64.0, -64.0, 100.0, -100.0]);
     run.function(
         grid(&values),
         |draw, kind| match (kind, draw.word() % 2) {

@@ -1,20 +1,25 @@
 //! The leaves that take one or two numbers.
 
 use crate::draw::kind::{Kind, Kinds};
-use crate::draw::{grid, Draw};
+use crate::draw::{grid, half_turns, Draw};
 use crate::run::Run;
 use crate::target::{Target, CONSTANT};
 use relaxed_ik::leaves;
 use standins::{acos, atan2, b, cos, cut, exp, powi, sin};
 
-/// About half of the draws are any floats.
+/// Up to half of the draws are any floats.
 const ROOT: Kinds = &[
     (Kind::Range, 1),
     (Kind::Border, 2),
     (Kind::Small, 1),
     (Kind::Any, 4),
 ];
-const ANGLE: Kinds = &[(Kind::Range, 3), (Kind::Small, 1), (Kind::Any, 4)];
+pub const ANGLE: Kinds = &[
+    (Kind::Range, 6),
+    (Kind::Border, 4),
+    (Kind::Small, 1),
+    (Kind::Any, 5),
+];
 const EXPONENT: Kinds = &[
     (Kind::Range, 5),
     (Kind::Border, 2),
@@ -79,8 +84,8 @@ pub fn targets() -> Vec<Target> {
     ]
 }
 
-/// A leaf of one number: all edges and powers of two with their neighbours, or
-/// draws.
+/// A leaf of one number: all edges, half turns and powers of two with their
+/// neighbours, or draws.
 #[inline]
 fn one(
     run: &mut Run,
@@ -101,8 +106,9 @@ fn one(
     );
 }
 
-fn singles(draw: &Draw) -> Vec<[f64; 1]> {
+pub fn singles(draw: &Draw) -> Vec<[f64; 1]> {
     let mut values = draw.edges();
+    values.extend(half_turns());
     for field in 0..2047u64 {
         values.push(f64::from_bits(field << 52));
     }
@@ -122,14 +128,25 @@ fn singles(draw: &Draw) -> Vec<[f64; 1]> {
     values.into_iter().flat_map(around).map(|v| [v]).collect()
 }
 
-/// Joints reach 8 and a little beyond once raised; sine and cosine are asked
-/// half of that.
-fn half_angle(draw: &mut Draw, kind: Kind) -> f64 {
-    match (kind, draw.word() % 3) {
+/// Joints reach 64 and a little beyond once raised; sine and cosine are asked half of
+/// that. The border is where they begin to take turns off, where they change how many,
+/// and where nothing is left, in range and far beyond.
+pub fn half_angle(draw: &mut Draw, kind: Kind) -> f64 {
+    let sign = draw.pick(&[1.0, -1.0]);
+    match (kind, draw.word() % 8) {
         (Kind::Any, _) => draw.any(),
         (Kind::Small, _) => draw.small(60),
-        (_, 0) => draw.between(-8.000001, 8.000001),
-        _ => draw.between(-4.0000001, 4.0000001),
+        (Kind::Border, 0 | 1) => sign * draw.beside(4.5, 2),
+        (Kind::Border, 2) => sign * draw.between(4.49, 4.51),
+        (Kind::Border, 3..=6) => draw.half_turns(21),
+        (Kind::Border, _) => {
+            let most = 2 << draw.below(54);
+            draw.half_turns(most)
+        }
+        (_, 0..=2) => draw.between(-4.0000001, 4.0000001),
+        (_, 3) => draw.between(-8.000001, 8.000001),
+        (_, 4..=6) => draw.between(-33.0, 33.0),
+        _ => draw.between(-65.0, 65.0),
     }
 }
 

@@ -4,7 +4,7 @@
 use crate::draw::kind::Kind;
 use crate::draw::Draw;
 use crate::{strict, tools, weights};
-use reference::refusals::{self, f64s, u16s};
+use reference::refusals::{self, f64s, reach, u16s, BLOCKS};
 use reference::sheet;
 use reference::spacetime::robot::Robot;
 use reference::tools::{ends, Tool as Mounted, Tools, TOOLS, TOOL_FLOATS};
@@ -52,6 +52,9 @@ pub const CODES: [u16; 29] = [
 /// How many of them the published arm knows: all but the telescoping ones.
 const PUBLISHED: usize = 22;
 const UNLISTED: [u16; 15] = [37, 9, 47, 65535, 1, 6, 7, 17, 19, 27, 29, 39, 49, 50, 256];
+/// How far a joint that slides may go, and one that turns.
+const SLIDE: f64 = reach(30);
+const TURNS: f64 = reach(10);
 /// How far links and tools go, but for some.
 const REACHES: [f64; 5] = [10.0, 2.0, 1.0, 0.5, 0.2];
 const IDENTITY: [f64; 4] = [1.0, 0.0, 0.0, 0.0];
@@ -196,21 +199,37 @@ impl Lists {
 
     /// Goals, history or joints.
     fn renew_block(&mut self, list: List, draw: &mut Draw) {
-        let bytes = &mut self.bytes[list as usize];
-        bytes.clear();
         if list == Goals {
-            (0..self.chains).for_each(|_| push(bytes, &goal(draw)));
+            let goals: Vec<[f64; 13]> = (0..self.chains).map(|_| goal(draw)).collect();
+            self.set_floats(list, goals.as_flattened());
             return;
         }
-        let blocks = if list == History { 4 } else { 1 };
-        for _ in 0..blocks * self.joints {
-            let value = if self.still && draw.word() % 8 != 0 {
-                zero(draw)
-            } else {
-                joint(draw)
-            };
-            push(bytes, &[value]);
-        }
+        let blocks = if list == History { BLOCKS } else { 1 };
+        let value = match (self.still, draw.word() % 4) {
+            (true, _) => still_joint,
+            // All within a slide's range.
+            (false, 0) => near_joint,
+            (false, _) => joint,
+        };
+        let codes = self.joint_codes().repeat(blocks);
+        let values: Vec<f64> = codes.iter().map(|&code| value(draw, code)).collect();
+        self.set_floats(list, &values);
+    }
+
+    /// As far as the links that were counted reach.
+    pub fn joint_codes(&self) -> Vec<u16> {
+        let mut codes = Vec::new();
+        u16s(self.get(Codes), &mut codes);
+        codes.truncate(self.links);
+        codes.retain(|&code| code != 0);
+        codes
+    }
+
+    /// Every joint at this value, or as near to it as the joint goes.
+    pub fn set_joints(&mut self, value: f64) {
+        let codes = self.joint_codes().into_iter();
+        let values: Vec<f64> = codes.map(|code| reached(value, code)).collect();
+        self.set_floats(Joints, &values);
     }
 
     /// A tool that is taken.
@@ -255,21 +274,23 @@ impl Lists {
             return;
         };
         let (mut joints, mut goals) = (self.floats(Joints), self.floats(Goals));
+        let codes = self.joint_codes();
         if draw.word() % 2 == 0 {
             let (lower, upper) = (&robot.lower_joint_limits, &robot.upper_joint_limits);
-            for (joint, (lower, upper)) in joints.iter_mut().zip(lower.iter().zip(upper)) {
+            let limits = lower.iter().zip(upper).zip(&codes);
+            for (joint, ((lower, upper), &code)) in joints.iter_mut().zip(limits) {
                 if draw.word() % 4 != 0 {
-                    *joint = between_limits(draw, *lower, *upper);
+                    *joint = reached(between_limits(draw, *lower, *upper), code);
                 }
             }
             self.set_floats(Joints, &joints);
         }
         if draw.word() % 4 != 0 {
-            self.set_floats(History, &recent(draw, &joints));
+            self.set_floats(History, &recent(draw, &joints, &codes));
         }
         let at = match draw.word() % 2 {
             0 => joints,
-            _ => beside(draw, &joints, 0.1),
+            _ => beside(draw, &joints, &codes, 0.1),
         };
         let ends = ends(&robot, &tools, &at);
         for (goal, end) in goals.chunks_exact_mut(13).zip(ends.chunks_exact(7)) {
@@ -300,7 +321,7 @@ impl Lists {
     }
 
     /// Puts floats at a place, as far as the list reaches.
-    fn put(&mut self, list: List, at: usize, floats: &[f64]) {
+    pub fn put(&mut self, list: List, at: usize, floats: &[f64]) {
         let places = self.bytes[list as usize].chunks_exact_mut(8).skip(at);
         for (place, float) in places.zip(floats) {
             place.copy_from_slice(&float.to_le_bytes());
@@ -358,6 +379,11 @@ impl Lists {
                 self.spoil_row(Limits, 2, draw, |draw| (0, narrow(draw, edge).to_vec()))
             }
             Damage::Value(list, value) => self.spoil_row(list, 1, draw, |_| (0, vec![value])),
+            Damage::Joint(list, value) => {
+                let (at, codes) = (self.place(list, 1, draw), self.joint_codes());
+                let code = codes.get(at % codes.len().max(1)).copied().unwrap_or(0);
+                self.put(list, at, &[value(code)]);
+            }
             Damage::GoalPart(value) => {
                 let part = draw.pick(&[0, 1, 2, 7, 8, 9, 10, 11, 12]);
                 self.spoil_row(Goals, 13, draw, |_| (part, vec![value]));
@@ -485,6 +511,9 @@ impl Change {
     }
 }
 
+/// By the joint's code.
+type JointValue = fn(u16) -> f64;
+
 #[derive(Clone, Copy, Debug)]
 pub enum Damage {
     Length(List, Change),
@@ -499,6 +528,8 @@ pub enum Damage {
     Pair(f64, f64),
     Narrow(Edge),
     Value(List, f64),
+    /// A value in a block of joints.
+    Joint(List, JointValue),
     GoalPart(f64),
     GoalTurn(Edge),
     /// So many bytes of a tool for a chain that is not loaded.
@@ -511,7 +542,7 @@ impl Damage {
     /// The list that it is done to, if that is one for all of its kind.
     fn list(self) -> Option<List> {
         match self {
-            Self::Length(list, _) | Self::Value(list, _) => Some(list),
+            Self::Length(list, _) | Self::Value(list, _) | Self::Joint(list, _) => Some(list),
             Self::Displacement(list, _) | Self::Offset(list, _) => Some(list),
             Self::OffsetPart(list, _) => Some(list),
             Self::Unloaded(_) => Some(Tool0),
@@ -550,20 +581,33 @@ const NAN_PAIRS: [(f64, f64); 4] = [
     (-1.0, f64::INFINITY),
 ];
 
+/// In no range.
+const NO_NUMBERS: [f64; 3] = [f64::NAN, f64::INFINITY, f64::NEG_INFINITY];
+
 /// At the ends of a range from -`end` to `end`, one ulp outside of it, and what
 /// is in no range.
-fn values(end: f64) -> [(Kind, f64); 7] {
+fn values(end: f64) -> Vec<(Kind, f64)> {
     let beyond = end.next_up();
-    [
-        (Kind::Border, end),
-        (Kind::Border, -end),
-        (Kind::Outside, beyond),
-        (Kind::Outside, -beyond),
-        (Kind::Nan, f64::NAN),
-        (Kind::Nan, f64::INFINITY),
-        (Kind::Nan, f64::NEG_INFINITY),
-    ]
+    let mut all = [end, -end].map(|v| (Kind::Border, v)).to_vec();
+    all.extend([beyond, -beyond].map(|v| (Kind::Outside, v)));
+    all.extend(NO_NUMBERS.map(|v| (Kind::Nan, v)));
+    all
 }
+
+/// The same for a joint by its code; besides them a turning joint's values beyond a
+/// slide's range, and on a slide those that a turning joint alone may have.
+const JOINT_VALUES: [(Kind, JointValue); 8] = [
+    (Kind::Border, reach),
+    (Kind::Border, |code| -reach(code)),
+    (Kind::Border, |code| SLIDE.next_up().min(reach(code))),
+    (Kind::Border, |code| (-SLIDE).next_down().max(-reach(code))),
+    (Kind::Outside, |code| reach(code).next_up()),
+    (Kind::Outside, |code| (-reach(code)).next_down()),
+    (Kind::Outside, |code| TURNS.max(reach(code).next_up())),
+    (Kind::Outside, |code| {
+        (-TURNS).min((-reach(code)).next_down())
+    }),
+];
 
 /// On either side of the edge.
 const SIDES: [(Kind, Edge); 2] = [(Kind::Border, Edge::JustIn), (Kind::Outside, Edge::JustOut)];
@@ -593,11 +637,13 @@ pub fn damages(read: &[List]) -> Vec<(Kind, Damage)> {
     }
     for list in [Joints, History] {
         if read.contains(&list) {
-            all.extend(values(8.0).map(|(kind, v)| (kind, Damage::Value(list, v))));
+            all.extend(JOINT_VALUES.map(|(kind, v)| (kind, Damage::Joint(list, v))));
+            all.extend(NO_NUMBERS.map(|v| (Kind::Nan, Damage::Value(list, v))));
         }
     }
     if read.contains(&Goals) {
-        all.extend(values(100.0).map(|(kind, v)| (kind, Damage::GoalPart(v))));
+        let part = |(kind, v)| (kind, Damage::GoalPart(v));
+        all.extend(values(100.0).into_iter().map(part));
         all.extend(SIDES.map(|(kind, edge)| (kind, Damage::GoalTurn(edge))));
         all.push((Kind::Nan, Damage::Value(Goals, f64::NAN)));
     }
@@ -623,7 +669,8 @@ fn arm_damages() -> Vec<(Kind, Damage)> {
 pub fn link_damages(list: List) -> Vec<(Kind, Damage)> {
     let part = |kind: Kind| move |v: f64| (kind, Damage::OffsetPart(list, v));
     let mut all = Vec::new();
-    all.extend(values(10.0).map(|(kind, v)| (kind, Damage::Displacement(list, v))));
+    let displacement = |(kind, v)| (kind, Damage::Displacement(list, v));
+    all.extend(values(10.0).into_iter().map(displacement));
     all.extend(SIDES.map(|(kind, edge)| (kind, Damage::Offset(list, edge))));
     all.extend([f64::NAN, f64::INFINITY].map(part(Kind::Nan)));
     all.extend([1e-4, 1.1].map(part(Kind::Outside)));
@@ -960,7 +1007,10 @@ fn limits(draw: &mut Draw) -> [f64; 2] {
         0 | 1 => [-999.0, 999.0],
         2 => [-100.0, 100.0],
         3 => narrow(draw, Edge::JustIn),
-        4 => [-8.0, 8.0],
+        4 => {
+            let end = draw.pick(&[SLIDE, TURNS]);
+            [-end, end]
+        }
         5 => {
             let lower = draw.between(-100.0, 99.9);
             [lower, draw.between(lower + 0.0011, 100.0)]
@@ -1000,10 +1050,25 @@ fn narrow(draw: &mut Draw, edge: Edge) -> [f64; 2] {
     }
 }
 
-fn joint(draw: &mut Draw) -> f64 {
+/// As far as the joint goes.
+fn reached(value: f64, code: u16) -> f64 {
+    let reach = reach(code);
+    value.clamp(-reach, reach)
+}
+
+/// Half of a turning joint's values are those of one that has turned on.
+fn joint(draw: &mut Draw, code: u16) -> f64 {
+    match reach(code) == TURNS && draw.word() % 2 == 0 {
+        true => far_joint(draw),
+        false => near_joint(draw, code),
+    }
+}
+
+/// Where any joint may be.
+fn near_joint(draw: &mut Draw, _: u16) -> f64 {
     match draw.word() % 16 {
-        0 => 8.0,
-        1 => -8.0,
+        0 => SLIDE,
+        1 => -SLIDE,
         2 => 0.0,
         3 => -0.0,
         4 => draw.small(60),
@@ -1013,7 +1078,29 @@ fn joint(draw: &mut Draw) -> f64 {
             draw.pick(&[quarter, -quarter, 2.0 * quarter, -2.0 * quarter])
         }
         7 | 8 => draw.between(-1.0, 1.0),
-        _ => draw.between(-8.0, 8.0),
+        _ => draw.between(-SLIDE, SLIDE),
+    }
+}
+
+/// At the end of a turning joint's range, just beyond a slide's, where half of it begins
+/// to be reduced, at so many half turns, or anywhere.
+fn far_joint(draw: &mut Draw) -> f64 {
+    let sign = draw.pick(&[1.0, -1.0]);
+    match draw.word() % 8 {
+        0 => sign * draw.pick(&[TURNS, TURNS.next_down()]),
+        1 => sign * draw.pick(&[SLIDE, SLIDE.next_up(), SLIDE.next_down()]),
+        2 => sign * draw.beside(9.0, 1),
+        3 | 4 => draw.half_turns(20),
+        _ => draw.between(-TURNS, TURNS),
+    }
+}
+
+/// Mostly a zero; the sine of so many half turns is often one too.
+fn still_joint(draw: &mut Draw, code: u16) -> f64 {
+    match draw.word() % 8 {
+        0 => joint(draw, code),
+        1 if reach(code) == TURNS => draw.half_turns(20),
+        _ => zero(draw),
     }
 }
 
@@ -1031,32 +1118,31 @@ fn goal(draw: &mut Draw) -> [f64; 13] {
     goal
 }
 
-/// Inside, at an end, or a little beyond, as far as joints go.
+/// Inside, at an end, or a little beyond.
 fn between_limits(draw: &mut Draw, lower: f64, upper: f64) -> f64 {
-    let at = match draw.word() % 4 {
+    match draw.word() % 4 {
         0 => draw.pick(&[lower, upper]),
         1 => lower + (upper - lower) * draw.between(-0.05, 1.05),
         _ => draw.between(lower, upper),
-    };
-    at.clamp(-8.0, 8.0)
+    }
 }
 
-/// The joints moved by up to so much.
-fn beside(draw: &mut Draw, joints: &[f64], size: f64) -> Vec<f64> {
-    let move_one = |&joint: &f64| (joint + draw.between(-size, size)).clamp(-8.0, 8.0);
-    joints.iter().map(move_one).collect()
+/// The joints moved by up to so much, as far as they go.
+fn beside(draw: &mut Draw, joints: &[f64], codes: &[u16], size: f64) -> Vec<f64> {
+    let moved = |(v, &code): (&f64, &u16)| reached(v + draw.between(-size, size), code);
+    joints.iter().zip(codes).map(moved).collect()
 }
 
 /// A history that leads to these joints: at rest, or by steps of a size.
-fn recent(draw: &mut Draw, joints: &[f64]) -> Vec<f64> {
+fn recent(draw: &mut Draw, joints: &[f64], codes: &[u16]) -> Vec<f64> {
     if draw.word() % 8 == 0 {
-        return joints.repeat(4);
+        return joints.repeat(BLOCKS);
     }
     let size = draw.pick(&[1e-9, 1e-6, 1e-3, 0.01, 0.05, 0.2]);
     let mut history = Vec::new();
     let mut block = joints.to_vec();
-    for _ in 0..4 {
-        block = beside(draw, &block, size);
+    for _ in 0..BLOCKS {
+        block = beside(draw, &block, codes, size);
         history.extend_from_slice(&block);
     }
     history
@@ -1166,6 +1252,33 @@ mod tests {
         assert!(mixed > 4_000 && most > 2_000, "{mixed}, {most}");
         assert!(CODES[..PUBLISHED].iter().all(|&code| code < 40));
         assert!(CODES[PUBLISHED..].iter().all(|&code| code >= 40));
+    }
+
+    /// A slide stays within its range. Of a turning joint's values more than half do so
+    /// too, many lie beyond, and those are met at which something changes.
+    #[test]
+    fn joints_are_drawn_by_their_code() {
+        let mut draw = Draw::new(2);
+        for &code in &CODES[1..] {
+            let values: Vec<f64> = (0..50_000).map(|_| joint(&mut draw, code)).collect();
+            assert!(values.iter().all(|v| v.abs() <= reach(code)), "{code}");
+            let beyond = values.iter().filter(|v| v.abs() > SLIDE).count();
+            let turns = reach(code) == TURNS;
+            assert_eq!(
+                (15_000..25_000).contains(&beyond),
+                turns,
+                "{code}, {beyond}"
+            );
+            // Half of these is 4.5, a whole turn, and two turns and a half.
+            for angle in [9.0f64, 12.566370614359172, 31.41592653589793] {
+                let around = [angle, angle.next_up(), angle.next_down()];
+                let ends = [TURNS, TURNS.next_down(), SLIDE.next_up()];
+                for v in around.into_iter().chain(ends) {
+                    let met = values.contains(&v) && values.contains(&-v);
+                    assert_eq!(met, turns, "{code}, {v:e}");
+                }
+            }
+        }
     }
 
     #[test]

@@ -4,7 +4,7 @@ use crate::arms::all;
 use crate::calls::{exact, Call};
 use crate::found::{differing, sheet};
 use crate::run::{matches, Run};
-use crate::sheets::{List, Lists, Shape};
+use crate::sheets::{Lists, Shape};
 use crate::source::{Source, READ, WRITTEN};
 use crate::tally::Shown;
 use crate::target::{Target, OBJECTIVE, SLOPES, TOGETHER};
@@ -47,7 +47,8 @@ pub fn targets() -> Vec<Target> {
     ]
 }
 
-/// The four calls at joints of every sign, or on draws with their faults.
+/// The four calls at joints of every sign and at the ends of their range, or on draws
+/// with their faults.
 fn agree(run: &mut Run) {
     if run.edges() {
         every_sign(run);
@@ -68,10 +69,10 @@ fn every_sign(run: &mut Run) {
         vec![vec![41, 12, 33, 44]; 4],
     ];
     for shape in &shapes {
-        for v in [8.0, -8.0, 0.0, -0.0, 0.5] {
+        for v in [64.0, -64.0, 8.0, -8.0, 0.0, -0.0, 0.5] {
             let mut lists = Lists::of(shape, &mut run.draw);
             Call::Objective.renew(&mut lists, &mut run.draw);
-            lists.set_floats(List::Joints, &vec![v; lists.joints]);
+            lists.set_joints(v);
             together(run, &lists);
         }
     }

@@ -6,6 +6,7 @@
 pub mod kind;
 
 use kind::Kind;
+use std::f64::consts::PI;
 
 /// SplitMix64: quick, and every seed will do.
 pub struct Draw {
@@ -20,11 +21,11 @@ pub fn fnv(bytes: &[u8]) -> u64 {
     })
 }
 
-/// Values at which something changes in document 01: range ends, tolerances,
+/// Values at which something changes in the papers: range ends, tolerances,
 /// bounds, steps and constants. Their negatives and their neighbours by one
 /// ulp are added below.
 #[allow(clippy::approx_constant)]
-const MARKS: [f64; 44] = [
+const MARKS: [f64; 47] = [
     0.0,
     f64::MIN_POSITIVE,
     0.5,
@@ -33,10 +34,13 @@ const MARKS: [f64; 44] = [
     2.0,
     3.0,
     4.0,
+    4.5,
     8.0,
+    9.0,
     10.0,
     16.0,
     25.0,
+    32.0,
     60.0,
     64.0,
     100.0,
@@ -183,14 +187,30 @@ impl Draw {
         f64::from_bits(fraction | (word & (1 << 57)) << 6)
     }
 
+    /// At most so many ulps away.
+    #[inline]
+    pub fn beside(&mut self, v: f64, ulps: u64) -> f64 {
+        let away = self.word() % (2 * ulps + 1);
+        f64::from_bits(v.to_bits().wrapping_add(away).wrapping_sub(ulps))
+    }
+
     /// An edge, or a float a few ulps beside one.
     #[inline]
     pub fn edge(&mut self) -> f64 {
         let at = self.below(self.edges.len());
         let edge = self.edges[at];
         match self.word() % 4 {
-            0 => f64::from_bits(edge.to_bits().wrapping_add(self.word() % 9).wrapping_sub(4)),
+            0 => self.beside(edge, 4),
             _ => edge,
+        }
+    }
+
+    /// An angle of at most so many half turns, either way, or a float beside one.
+    pub fn half_turns(&mut self, most: usize) -> f64 {
+        let count = (1 + self.below(most)) as f64 * self.pick(&[1.0, -1.0]);
+        match self.word() % 2 {
+            0 => count * PI,
+            _ => self.beside(count * PI, 2),
         }
     }
 
@@ -201,7 +221,10 @@ impl Draw {
         match self.word() % 8 {
             0 | 1 => self.bits(),
             2 => self.edge(),
-            3 => self.between(-8.000001, 8.000001),
+            3 => {
+                let reach = self.pick(&[8.000001, 64.000001]);
+                self.between(-reach, reach)
+            }
             4 => self.between(-10.000001, 10.000001),
             5 => self.between(-100.00001, 100.00001),
             6 => self.small(60),
@@ -301,6 +324,15 @@ pub fn turned([w, i, j, k]: [f64; 4], half: f64, axis: [f64; 3]) -> [f64; 4] {
     ]
 }
 
+/// Angles of so many half turns: at an even count sine and cosine have nothing left, at
+/// an odd one they change how many turns they take off. First all that a joint reaches
+/// and some more, then some as far out as floats tell such counts apart.
+pub fn half_turns() -> Vec<f64> {
+    let near = (1..=24).map(f64::from);
+    let far = (5..54).flat_map(|power| [2f64.powi(power), 2f64.powi(power) + 1.0]);
+    near.chain(far).map(|count| count * PI).collect()
+}
+
 /// Every way to put the values into N places.
 pub fn grid<const N: usize>(values: &[f64]) -> impl Iterator<Item = [f64; N]> + '_ {
     let count = values.len();
@@ -378,6 +410,25 @@ mod tests {
             half > 300 && small[0] > 100 && small[1] > 100,
             "{half}, {small:?}"
         );
+    }
+
+    /// Every count, each with the floats beside; 5 and 9 half turns are the ties that are
+    /// not taken away from zero.
+    #[test]
+    fn half_turns_are_met_with_their_neighbours() {
+        let mut draw = Draw::new(1);
+        let drawn: Vec<f64> = (0..10_000).map(|_| draw.half_turns(10)).collect();
+        for count in 1..=10 {
+            let angle = f64::from(count) * PI;
+            for v in [angle, angle.next_up(), angle.next_down()] {
+                assert!(drawn.contains(&v) && drawn.contains(&-v), "{v}");
+            }
+        }
+        let listed = half_turns();
+        for tie in [15.707963267948966, 28.274333882308138] {
+            assert!(drawn.contains(&tie) && listed.contains(&tie));
+            assert_eq!(tie / (2.0 * PI) % 2.0, 0.5);
+        }
     }
 
     #[test]

@@ -5,7 +5,7 @@
 use crate::input::{Input, MOST};
 use compare::calls::{number, Call};
 use compare::sheets::{List, Lists, Shape, CODES, TOOL_LISTS};
-use reference::refusals::{f64s, u16s};
+use reference::refusals::{f64s, reach, u16s, BLOCKS};
 use reference::sheet::{GOAL_FLOATS, LINK_FLOATS};
 use reference::weights::WEIGHTS;
 use relaxed_ik::bytes::{put_floats, put_u16s};
@@ -49,12 +49,17 @@ fn mend_arms(lists: &mut Lists) {
     let mut goal = [0.0; GOAL_FLOATS];
     goal[3] = 1.0;
     set_groups(lists, List::Goals, lists.chains, &goal, mend_goal);
-    let joints = lists.joints;
-    set_groups(lists, List::History, 4 * joints, &[0.0], |joint| {
-        clamp(joint, -8.0, 8.0)
-    });
-    set_groups(lists, List::Joints, joints, &[0.0], |joint| {
-        clamp(joint, -8.0, 8.0)
+    set_blocks(lists, List::History, BLOCKS);
+    set_blocks(lists, List::Joints, 1);
+}
+
+/// So many blocks of joints, each value as far as its joint goes.
+fn set_blocks(lists: &mut Lists, list: List, blocks: usize) {
+    let codes = lists.joint_codes();
+    let mut reaches = codes.iter().map(|&code| reach(code)).cycle();
+    set_groups(lists, list, blocks * codes.len(), &[0.0], |joint| {
+        let reach = reaches.next().expect("a joint");
+        clamp(joint, -reach, reach);
     });
 }
 
@@ -148,7 +153,7 @@ fn set_groups<const N: usize>(
     list: List,
     count: usize,
     filler: &[f64; N],
-    mend: fn(&mut [f64]),
+    mend: impl FnMut(&mut [f64]),
 ) {
     let mut floats = Vec::new();
     f64s(lists.get(list), &mut floats);
@@ -258,6 +263,24 @@ mod tests {
         assert!(CODES.contains(&40) && CODES.contains(&46));
         let reached: Vec<u16> = (47..47 + CODES.len() as u16).map(mended).collect();
         assert!(CODES.iter().all(|code| reached.contains(code)));
+    }
+
+    /// A joint goes as far as its kind does, in the block and in a history.
+    #[test]
+    fn joints_are_mended_by_their_code() {
+        let mut input = drawn(Call::Update, &mut Draw::new(5));
+        set_shape(&mut input.lists, &vec![vec![13, 33, 0, 40, 20]]);
+        for (value, sign) in [(f64::INFINITY, 1.0), (-65.0, -1.0)] {
+            input.lists.set_floats(List::Joints, &[value; 4]);
+            input.lists.set_floats(List::History, &[value; 16]);
+            mend(&mut input);
+            let ends = [64.0, 8.0, 8.0, 64.0].map(|end| sign * end);
+            for (list, blocks) in [(List::Joints, 1), (List::History, 4)] {
+                let mut mended = Vec::new();
+                f64s(input.lists.get(list), &mut mended);
+                assert_eq!(mended, ends.repeat(blocks));
+            }
+        }
     }
 
     /// What is taken already is left alone.

@@ -85,7 +85,8 @@ fn bytes(input: &mut Input, draw: &mut Draw, keep: bool, plain: &mut impl FnMut(
     input.lists.set(list, &new);
 }
 
-/// One float becomes a neighbour, its negative, an edge, or any.
+/// One float becomes a neighbour, its negative, an edge, or any; a joint's now and then
+/// so many half turns.
 fn float(input: &mut Input, draw: &mut Draw) {
     let mut lists = input.call.read().to_vec();
     let floats = |list: &List| {
@@ -108,6 +109,10 @@ fn float(input: &mut Input, draw: &mut Draw) {
         3 => draw.edge(),
         4 => draw.any(),
         _ if list == List::Weights => draw.between(0.0, 1000.0),
+        _ if matches!(list, List::Joints | List::History) => {
+            let turned = [draw.between(-64.0, 64.0), draw.half_turns(20)];
+            draw.pick(&turned)
+        }
         _ => draw.between(-8.0, 8.0),
     };
     bytes[at..at + 8].copy_from_slice(&new.to_le_bytes());

@@ -1,7 +1,7 @@
 //! Ours, no part of the published files: the refusals 1 to 9 of document 01's
-//! section 'From the input', 10 and 11 of document 02's changes 2 and 3, written
-//! from the papers, apart from the proved code. Each public call below answers 0 or
-//! the lowest number that applies.
+//! section 'From the input', 7 by the ranges of document 02's change 7, and 10 and 11
+//! of its changes 2 and 3, written from the papers, apart from the proved code. Each
+//! public call below answers 0 or the lowest number that applies.
 //! The state numbers 20 to 22 are no concern here: a byte call keeps no state.
 
 use crate::sheet::{END_FLOATS, GOAL_FLOATS, LINK_FLOATS};
@@ -137,6 +137,12 @@ impl Sheet<'_> {
         self.joints().sum()
     }
 
+    /// The joints' codes across chains, in the order of a block's values.
+    fn joint_codes(&self) -> impl Iterator<Item = u16> + Clone + '_ {
+        let codes = self.codes.numbers.iter().copied();
+        codes.filter(|&code| code != 0)
+    }
+
     /// Links that the one-block call walks: all of them once, then for each
     /// joint those from its link to its chain's end.
     fn walked(&self) -> usize {
@@ -243,9 +249,20 @@ fn wrong_links(sheet: &Sheet) -> bool {
     links.any(wrong_link)
 }
 
-/// 7, for a block of joints or several blocks in one list.
-fn wrong_block(block: List<f64>, count: usize) -> bool {
-    !block.has(count) || !block.numbers.iter().all(|&v| within(v, -8.0, 8.0))
+/// How far a joint of this code goes, either way. Document 02's change 7 lets one that
+/// turns count on through several turns.
+pub const fn reach(code: u16) -> f64 {
+    match code {
+        10..=16 | 20..=26 => 64.0,
+        _ => 8.0,
+    }
+}
+
+/// 7, for so many blocks of joints in one list.
+fn wrong_blocks(list: List<f64>, sheet: &Sheet, blocks: usize) -> bool {
+    let reaches = sheet.joint_codes().map(reach).cycle();
+    let inside = |(&v, reach): (&f64, f64)| within(v, -reach, reach);
+    !list.has(blocks * sheet.all_joints()) || !list.numbers.iter().zip(reaches).all(inside)
 }
 
 /// 8.
@@ -342,7 +359,7 @@ fn then_tools(answer: u32, sheet: &Sheet, tools: &Tools) -> u32 {
 /// enough.
 fn on_joints(sheet: &Sheet, joints: List<f64>, fits: impl FnOnce() -> bool) -> u32 {
     match load(sheet) {
-        ACCEPTED if wrong_block(joints, sheet.all_joints()) => 7,
+        ACCEPTED if wrong_blocks(joints, sheet, 1) => 7,
         ACCEPTED if !fits() => 9,
         answer => answer,
     }
@@ -373,7 +390,7 @@ pub fn reset(sheet: &Sheet, tools: &Tools, joints: List<f64>, history: Room, end
 
 pub fn update(sheet: &Sheet, history: List<f64>, joints: List<f64>, renewed: Room) -> u32 {
     match load(sheet) {
-        ACCEPTED if wrong_block(history, BLOCKS * sheet.all_joints()) => 7,
+        ACCEPTED if wrong_blocks(history, sheet, BLOCKS) => 7,
         ACCEPTED => on_joints(sheet, joints, || renewed.holds(BLOCKS * sheet.all_joints())),
         answer => answer,
     }
@@ -386,8 +403,7 @@ fn on_goals(given: &Given, joints: List<f64>, fits: impl FnOnce() -> bool) -> u3
     let sheet = &given.sheet;
     let answer = match load(sheet) {
         ACCEPTED
-            if wrong_block(given.history, BLOCKS * sheet.all_joints())
-                || wrong_block(joints, sheet.all_joints()) =>
+            if wrong_blocks(given.history, sheet, BLOCKS) || wrong_blocks(joints, sheet, 1) =>
         {
             7
         }

@@ -1,4 +1,5 @@
-//! Document 01's small cases, run through the published files.
+//! Document 01's small cases, and what turns that are counted on come to, run through
+//! the published files.
 
 use nalgebra::{Point3, Vector3};
 use parry3d_f64::{query, shape::Segment};
@@ -12,8 +13,12 @@ const UP: [f64; 7] = [0.0, 0.0, 1.0, 1.0, 0.0, 0.0, 0.0];
 
 /// One chain with wide limits.
 fn chain(codes: &[u16], links: &[[f64; 7]]) -> Robot {
+    limited(codes, links, [-3.0, 3.0])
+}
+
+fn limited(codes: &[u16], links: &[[f64; 7]], limits: [f64; 2]) -> Robot {
     let joints = codes.iter().filter(|&&code| code != 0).count();
-    let limits = [-3.0, 3.0].repeat(joints);
+    let limits = limits.repeat(joints);
     sheet::robot(&[1, codes.len() as u16], codes, &links.concat(), &limits)
 }
 
@@ -68,6 +73,38 @@ fn a_zero_angle_keeps_its_sign() {
     let q = get_quat_y(-0.0);
     let bits = [q.w, q.i, q.j, q.k].map(f64::to_bits);
     assert_eq!(bits, [1.0, 0.0, -0.0, 0.0].map(f64::to_bits));
+}
+
+/// The bits of every position and rotation of the first chain.
+fn frames_bits(robot: &Robot, x: &[f64]) -> Vec<u64> {
+    let (positions, rotations) = sheet::frames(robot, x);
+    positions
+        .iter()
+        .chain(&rotations)
+        .map(|v| v.to_bits())
+        .collect()
+}
+
+/// Twice round, half of the value is a whole turn, of which the series see nothing.
+#[test]
+fn a_ring_twice_round_is_where_it_was() {
+    let robot = chain(&[13, 12, 20], &[UP; 3]);
+    let still = frames_bits(&robot, &[0.0, 0.5, 1.0]);
+    for k in [-5.0, -1.0, 1.0, 2.0, 5.0] {
+        let ring = k * 12.566370614359172;
+        assert_eq!(frames_bits(&robot, &[ring, 0.5, 1.0]), still, "{ring}");
+    }
+}
+
+/// Half of the second joint is two turns and a half. Three taken off, not two, its sine
+/// would be -0.0, and so would i.
+#[test]
+fn half_a_turn_too_many_is_taken_to_even() {
+    let robot = chain(&[12, 11], &[UP, UP]);
+    let frames = robot.get_frames_immutable(&[-1.0, 31.41592653589793]);
+    let last = frames[0].1[3];
+    assert_eq!(last.i.to_bits(), 0.0f64.to_bits());
+    assert!(last.w < 0.0 && last.j > 0.0);
 }
 
 #[test]
@@ -131,6 +168,32 @@ fn gradients_run() {
     for (a, b) in slopes.iter().zip(&slopes_too) {
         assert!(a.is_finite() && *a != 0.0);
         assert!((a - b).abs() <= 1e-3 * a.abs().max(1.0), "{a} and {b}");
+    }
+}
+
+/// Joints at 64 are raised beyond their range, and answered there: without limits value
+/// and slopes are nearly those of ten turns before.
+#[test]
+fn slopes_go_beyond_the_range() {
+    let bent = [0.1, 0.0, 0.3, 0.8, 0.0, 0.6, 0.0];
+    let codes = [13, 12, 11, 23, 15, 16];
+    let links = [UP, bent, UP, bent, UP, bent];
+    let turns = 10.0 * std::f64::consts::TAU;
+    let at = |x: [f64; 6]| {
+        let robot = limited(&codes, &links, [-999.0, 999.0]);
+        let vars = sheet::vars(robot, &GOAL, &x.map(|v| v - 0.01));
+        let master = ObjectiveMaster::relaxed_ik(&vars.robot.chain_lengths);
+        let (value, slopes) = master.gradient(&x, &vars);
+        assert_eq!(value.to_bits(), master.call(&x, &vars).to_bits());
+        [vec![value], slopes].concat()
+    };
+    let far = [64.0, -64.0, 64.0, -64.0, 64.0, -64.0];
+    let near = far.map(|v: f64| v - turns.copysign(v));
+    for (far, near) in at(far).into_iter().zip(at(near)) {
+        assert!(
+            (far - near).abs() <= 1e-4 * near.abs().max(1.0),
+            "{far} and {near}"
+        );
     }
 }
 

@@ -231,12 +231,22 @@ fn links() {
 fn joints_and_history() {
     panics(7, &with(|l| l.joints.truncate(1)));
     panics(7, &with(|l| l.joints.push(0.0)));
-    let above = with(|l| l.joints[0] = 8f64.next_up());
-    goes_on(7, &above, 1092.6210447762805);
+    let above = with(|l| l.joints[0] = 64f64.next_up());
+    goes_on(7, &above, 61862.33250041516);
+    let slid = |value: f64| {
+        with(move |l| {
+            l.codes[0] = 33;
+            l.joints[0] = value;
+        })
+    };
+    goes_on(7, &slid(8f64.next_up()), 32837.87577582789);
+    for taken in [with(|l| l.joints[0] = 64.0), slid(8.0)] {
+        assert_eq!(proved(&taken).ok(), published(&taken));
+    }
     goes_on(7, &with(|l| l.joints[0] = f64::NAN), f64::NAN);
     panics(7, &with(|l| l.blocks[0].truncate(1)));
     goes_on(7, &with(|l| l.blocks[3].push(0.0)), PLAIN);
-    goes_on(7, &with(|l| l.blocks[0][0] = 9.0), 4193.764664716764);
+    goes_on(7, &with(|l| l.blocks[0][0] = 65.0), 227969.76466471676);
     goes_on(7, &with(|l| l.blocks[3][0] = f64::NAN), PLAIN);
 }
 

@@ -14,10 +14,6 @@ impl Lists {
     fn load(&self) -> u32 {
         load(&self.sheet())
     }
-
-    fn manipulability(&self) -> u32 {
-        manipulability(&self.sheet(), List::of(&self.joints), Room::of(1))
-    }
 }
 
 fn with_limits(lower: f64, upper: f64) -> u32 {
@@ -32,22 +28,82 @@ fn with_link(link: [f64; 7]) -> u32 {
     lists.load()
 }
 
-#[test]
-fn joint_8_is_taken_and_the_next_float_refused() {
-    for (value, answer) in [
-        (8.0, 0),
-        (-8.0, 0),
-        (8.0f64.next_up(), 7),
-        ((-8.0f64).next_down(), 7),
-        (f64::NAN, 7),
+/// Every joint's code, with how far the papers let it go either way.
+fn reaches() -> impl Iterator<Item = (u16, f64)> {
+    let kinds = [(10, 64.0), (20, 64.0), (30, 8.0), (40, 8.0)];
+    let codes = |(kind, reach): (u16, f64)| (0..7).map(move |axis| (kind + axis, reach));
+    kinds.into_iter().flat_map(codes)
+}
+
+/// Values at the ends of a range, one float beyond, and in no range.
+fn at_the_ends(reach: f64) -> [(f64, u32); 8] {
+    [
+        (reach, 0),
+        (-reach, 0),
         (-0.0, 0),
-    ] {
-        // A turning joint, and a slide of either kind.
-        for code in [12, 33, 43] {
-            let mut lists = chains(&[&[13, code]]);
-            lists.joints[1] = value;
-            assert_eq!(lists.manipulability(), answer, "{code}, {value:e}");
+        (reach.next_up(), 7),
+        ((-reach).next_down(), 7),
+        (f64::INFINITY, 7),
+        (f64::NAN, 7),
+        (-f64::NAN, 7),
+    ]
+}
+
+/// What the calls answer that are lent the joints alone, and those that are lent a
+/// history too, all with room enough.
+fn on_blocks(lists: &Lists, history: &[f64]) -> [u32; 2] {
+    let goals = taken_goals(usize::from(lists.sizes[0]));
+    let given = given(lists, &goals, history);
+    let (sheet, joints) = (given.sheet, List::of(&lists.joints[..]));
+    let (numbers, room) = (1000, Room::of(1000));
+    let alone = on_arms(&given, &lists.joints, numbers);
+    assert_eq!(alone, frames(&sheet, joints, room, room));
+    assert_eq!(alone, manipulability(&sheet, joints, room));
+    let both = all_on_goals(&given, &lists.joints, numbers);
+    assert_eq!(both, update(&sheet, given.history, joints, room));
+    [alone, both]
+}
+
+/// A slide of either kind is taken at 8, a turning joint at 64, with an axis or
+/// without, and the next float is refused: in the block and in each of the history's.
+#[test]
+fn a_joint_is_taken_at_its_reach_and_the_next_float_refused() {
+    for (code, reach) in reaches() {
+        for (value, answer) in at_the_ends(reach) {
+            for (at, codes) in [[code, 13], [33, code]].iter().enumerate() {
+                let (mut lists, quiet) = (chains(&[codes]), [0.5; 8]);
+                for block in 0..BLOCKS {
+                    let mut history = quiet;
+                    history[2 * block + at] = value;
+                    let answers = on_blocks(&lists, &history);
+                    assert_eq!(answers, [0, answer], "{code}, {value:e} in block {block}");
+                }
+                lists.joints[at] = value;
+                let answers = on_blocks(&lists, &quiet);
+                assert_eq!(answers, [answer; 2], "{code}, {value:e}");
+            }
         }
+    }
+}
+
+/// Across chains and past fixed links each value has the range of its own joint.
+#[test]
+fn joints_are_ranged_one_by_one() {
+    let mut lists = chains(&[&[0, 13, 33], &[43, 0, 20]]);
+    let reaches = [64.0, 8.0, 8.0, 64.0];
+    lists.joints = reaches.to_vec();
+    let mut history = reaches.map(|reach: f64| -reach).repeat(BLOCKS);
+    assert_eq!(on_blocks(&lists, &history), [0; 2]);
+    for (at, reach) in reaches.into_iter().enumerate() {
+        lists.joints[at] = reach.next_up();
+        assert_eq!(on_blocks(&lists, &history), [7; 2], "joint {at}");
+        lists.joints[at] = reach;
+    }
+    for at in 0..history.len() {
+        let kept = history[at];
+        history[at] = kept.next_down();
+        assert_eq!(on_blocks(&lists, &history), [0, 7], "history, {at}");
+        history[at] = kept;
     }
 }
 
@@ -419,7 +475,7 @@ fn the_lowest_number_wins_for_slopes() {
     lists.floats[0] = 11.0;
     let (goals, history, joints) = (taken_goals(2), [0.5; 16], [0.5; 4]);
     let mut far = history;
-    far[15] = 8.0f64.next_up();
+    far[15] = 64.0f64.next_up();
     let all = |lists: &Lists, goals: &[f64], history: &[f64], joints: &[f64]| {
         let mut given = given(lists, goals, history);
         let answer = all_on_goals(&given, joints, 0);

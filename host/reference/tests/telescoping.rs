@@ -4,6 +4,7 @@
 
 use nalgebra::{DMatrix, UnitQuaternion, Vector3};
 use reference::groove::objective_master::ObjectiveMaster;
+use reference::refusals::reach;
 use reference::sheet;
 use reference::spacetime::arm::Arm;
 use reference::spacetime::published_arm::Arm as PublishedArm;
@@ -82,6 +83,12 @@ impl Draw {
         };
         (0..count).map(code).collect()
     }
+
+    /// A value for each joint, as far as its kind goes.
+    fn joints(&mut self, codes: &[u16]) -> Vec<f64> {
+        let joints = codes.iter().filter(|&&code| code != 0);
+        joints.map(|&code| self.value(reach(code))).collect()
+    }
 }
 
 fn joints_of(codes: &[u16]) -> usize {
@@ -128,7 +135,7 @@ fn the_model_walks_as_the_published_arm_does() {
         let published = arm(&codes, &links);
         let (model, own): (Arm, &PublishedArm) = (published.modelled(), &published);
         for _ in 0..3 {
-            let x: Vec<f64> = (0..joints_of(&codes)).map(|_| draw.value(8.0)).collect();
+            let x = draw.joints(&codes);
             let frames = published.get_frames_immutable(&x);
             assert_eq!(own.get_frames_immutable(&x), frames, "{codes:?}");
             let (poses, measure) = answers(&published, &x);
@@ -182,7 +189,7 @@ fn a_telescoping_link_is_two_fixed_links() {
         let kinds = draw.pick(&[&[10, 20, 30, 40][..], &[10, 40], &[40]]);
         let codes = draw.codes(kinds);
         let links: Vec<Link> = codes.iter().map(|_| draw.link()).collect();
-        let x: Vec<f64> = (0..joints_of(&codes)).map(|_| draw.value(8.0)).collect();
+        let x = draw.joints(&codes);
         let (fixed, own_x) = apart(&codes, &links, &x);
         let (p, q) = fixed.get_ee_pos_and_quat_immutable(&own_x);
         let (own_p, own_q) = arm(&codes, &links).get_ee_pos_and_quat_immutable(&x);

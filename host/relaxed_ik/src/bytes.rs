@@ -464,9 +464,9 @@ macro_rules! numbers {
 numbers! {
     /// The square root, correctly rounded.
     sqrt = relaxed_ik_sqrt(x: f64);
-    /// Made for half joint angles, up to 4 in size.
+    /// Made for half joint angles, up to 32 in size; beyond 4.5 whole turns are taken off first.
     sin = relaxed_ik_sin(a: f64);
-    /// Made for half joint angles, up to 4 in size.
+    /// Made for half joint angles, up to 32 in size; beyond 4.5 whole turns are taken off first.
     cos = relaxed_ik_cos(a: f64);
     /// Of y <= 0; 0 below -700, a NaN above 0.
     exp = relaxed_ik_exp(y: f64);

@@ -46,7 +46,7 @@
 //! let ends = sheet.poses([&tool, &[], &[], &[]], &[0.0, 0.0])?;
 //! assert_eq!(ends[0].position, [0.0, 0.0, 2.5]);
 //! assert_eq!(sheet.set_tool(1, &tool), Err(Refusal::Tool));
-//! assert_eq!(sheet.poses(NO_TOOLS, &[0.0, 9.0]), Err(Refusal::Joints));
+//! assert_eq!(sheet.poses(NO_TOOLS, &[0.0, 65.0]), Err(Refusal::Joints));
 //! # Ok::<(), Refusal>(())
 //! ```
 
@@ -85,6 +85,11 @@ pub const GOAL_FLOATS: usize = 13;
 pub const POSE_FLOATS: usize = 7;
 /// Blocks of a history: the current joints, then the three before them.
 pub const HISTORY_BLOCKS: usize = 4;
+/// How far the value of a revolute or continuous joint goes, either way: a slew ring
+/// may count on through several turns.
+pub const MOST_TURN: f64 = 64.0;
+/// How far that of a prismatic or telescoping joint goes, either way.
+pub const MOST_SLIDE: f64 = 8.0;
 
 /// A position and a rotation, w first.
 #[derive(Clone, Copy, Debug, PartialEq)]

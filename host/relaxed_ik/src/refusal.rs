@@ -56,7 +56,7 @@ impl Refusal {
             Self::Count => "at least 2 joints a chain, at most 16 in all, and no later chain with more joints than chain 0 has links",
             Self::Limits => "two limits a joint, either -999 and 999 or both within -100..100 and upper - lower >= 0.001",
             Self::Link => "displacements within -10..10 and offsets whose squares' sum is within 0.999999999..1.000000001",
-            Self::Joints => "a value within -8..8 for each joint, in the joints and in each block of the history",
+            Self::Joints => "a value for each joint, in the joints and in each block of the history: within -64..64 for a revolute or continuous joint, within -8..8 for a prismatic or telescoping one",
             Self::Goals => "13 floats a chain: position and tolerances within -100..100, a rotation whose squares' sum is within 0.999999999..1.000000001",
             Self::Room => "lists to be written as long as what goes into them",
             Self::Weights => "eight weights within 0..1000",

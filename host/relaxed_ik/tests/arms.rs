@@ -3,7 +3,8 @@
 mod lists;
 
 use lists::chains;
-use relaxed_ik::{bytes, ObjectiveList, Refusal, Sheet, NO_TOOLS};
+use relaxed_ik::{bytes, ObjectiveList, Refusal, Sheet, MOST_TURN, NO_TOOLS};
+use std::f64::consts::TAU;
 
 #[test]
 fn each_refusal_by_its_number() {
@@ -146,6 +147,38 @@ fn a_pose_rotates_as_the_frames_do() {
     let z = end.rotate([0.0, 0.0, 1.0]);
     let expected = [1.0, 0.0, 0.0];
     assert!(z.iter().zip(expected).all(|(a, b)| (a - b).abs() < 1e-12));
+}
+
+/// An end's rotation, by its bits.
+fn turned(codes: [u16; 2], joints: [f64; 2]) -> [u64; 4] {
+    let lists = chains(&[codes]);
+    let ends = lists.sheet().poses(NO_TOOLS, &joints).unwrap();
+    ends[0].rotation.map(f64::to_bits)
+}
+
+/// Two turns are a whole one of the half angle, which leaves the arm as it was.
+#[test]
+fn a_ring_counts_on() {
+    for code in [13, 26] {
+        let at = |ring: f64| turned([code, 12], [ring, 0.3]);
+        for twice in -5..=5 {
+            let ring = f64::from(twice) * 2.0 * TAU;
+            assert!(ring.abs() <= MOST_TURN);
+            assert_eq!(at(ring), at(0.0), "{ring}");
+            assert_ne!(at(ring + 1.0), at(0.0), "{ring}");
+        }
+    }
+}
+
+/// Half of this value is as near to two turns as to three. Two are taken off, which
+/// leaves a zero of the other sign than three.
+#[test]
+fn ties_are_taken_to_even() {
+    let [_, i, ..] = turned([12, 11], [-1.0, 5.0 * TAU]);
+    assert_eq!(i, 0.0f64.to_bits());
+    assert_eq!(bytes::sin(2.5 * TAU).to_bits(), 0.0f64.to_bits());
+    assert_eq!(bytes::sin(1.5 * TAU).to_bits(), (-0.0f64).to_bits());
+    assert_eq!([1.5, 2.5].map(|turns| bytes::cos(turns * TAU)), [-1.0; 2]);
 }
 
 #[test]

@@ -46,16 +46,68 @@ impl Lists {
     }
 }
 
+/// Every code of a joint with the ends of its range, which are taken, and the next
+/// floats, which are refused.
+fn ends() -> impl Iterator<Item = (u16, f64, u32)> {
+    let turning = (10..=16).chain(20..=26).map(|code| (code, 64.0f64));
+    let sliding = (30..=36).chain(40..=46).map(|code| (code, 8.0));
+    turning.chain(sliding).flat_map(|(code, most)| {
+        let beyond = most.next_up();
+        [(most, 0), (-most, 0), (beyond, 7), (-beyond, 7)]
+            .map(|(value, answer)| (code, value, answer))
+    })
+}
+
+/// What the calls on joints alone answer of four links, three of them joints. Only a
+/// call that was taken has written.
+fn joint_answers(lists: &Lists, joints: &[u8]) -> [u32; 4] {
+    let sheet = lists.sheet();
+    let mut written = [15, 24, 7, 1, 12, 7].map(|count| floats(&vec![0.5; count]));
+    let before = written.clone();
+    let [positions, rotations, ends, value, history, starts] = &mut written;
+    let found = [
+        bytes::frames(sheet, joints, positions, rotations),
+        bytes::pose(sheet, NO_TOOLS, joints, ends),
+        bytes::manipulability(sheet, joints, value),
+        bytes::reset(sheet, NO_TOOLS, joints, history, starts),
+    ];
+    for (list, before) in written.iter().zip(&before) {
+        assert_eq!(list != before, found == [0; 4]);
+    }
+    found
+}
+
 #[test]
-fn joint_8_is_taken_and_the_next_float_refused() {
-    let lists = chain(&[13, 12]);
-    for (value, answer) in [(8.0, 0), (8.0f64.next_up(), 7)] {
-        let mut room = floats(&[0.5]);
-        let joints = floats(&[0.0, value]);
-        let answered = bytes::manipulability(lists.sheet(), &joints, &mut room);
-        assert_eq!(answered, answer, "{value:e}");
-        // Fewer than six joints: 0.0; a refused call leaves the list.
-        assert_eq!(room, floats(&[if answer == 0 { 0.0 } else { 0.5 }]));
+fn the_end_of_a_range_is_taken_and_the_next_float_refused() {
+    for (code, value, answer) in ends() {
+        let lists = chain(&[33, 0, code, 13]);
+        let found = joint_answers(&lists, &floats(&[8.0, value, -64.0]));
+        assert_eq!(found, [answer; 4], "code {code} at {value:e}");
+    }
+}
+
+/// The joints, then the four blocks of the history, with the value in one of them.
+fn five_blocks<const N: usize>(block: [f64; N], at: usize, value: f64) -> [Vec<u8>; 2] {
+    let mut blocks = [block; 5];
+    blocks[at][1] = value;
+    [&blocks[..1], &blocks[1..]].map(|part| floats(&part.concat()))
+}
+
+#[test]
+fn each_block_of_a_history_has_the_ranges_of_the_joints() {
+    for (code, value, answer) in ends() {
+        let lists = chain(&[33, 0, code, 13]);
+        for at in 0..5 {
+            let [joints, history] = five_blocks([8.0, 0.5, -64.0], at, value);
+            let mut renewed = floats(&[7.0; 12]);
+            let expected = match answer {
+                0 => [&joints[..], &history[..72]].concat(),
+                _ => renewed.clone(),
+            };
+            let answered = bytes::update(lists.sheet(), &history, &joints, &mut renewed);
+            assert_eq!(answered, answer, "code {code}, block {at} at {value:e}");
+            assert_eq!(renewed, expected);
+        }
     }
 }
 
@@ -199,7 +251,7 @@ fn only_an_empty_tool_is_none() {
 #[cfg(feature = "objective")]
 mod objective {
     use super::lists::{BUILT_IN, GOAL, UP};
-    use super::{chain, floats, u16s, Lists, STRICT};
+    use super::{chain, ends, five_blocks, floats, u16s, Lists, STRICT};
     use relaxed_ik::bytes::{gradient, gradient_finite_diff, gradient_one_block, objective};
     use relaxed_ik::bytes::{Given, Record};
 
@@ -314,11 +366,11 @@ mod objective {
         lists.goals.pop();
         lists.weights = floats(&[1000.5; 8]);
         lists.tools[1] = vec![0];
-        lists.joints = floats(&[0.5, 8.0f64.next_up()]);
+        lists.joints = floats(&[0.5, 64.0f64.next_up()]);
         let mut value = vec![1, 2, 3];
         let answer = objective(lists.given(), &lists.joints, &mut value);
         assert_eq!(answer, 7);
-        lists.joints = floats(&[0.5, 8.0]);
+        lists.joints = floats(&[0.5, 64.0]);
         let answer = objective(lists.given(), &lists.joints, &mut value);
         assert_eq!(answer, 8);
         lists.goals = good;
@@ -342,21 +394,37 @@ mod objective {
     fn answers(lists: &Aimed) -> [u32; 4] {
         let (given, joints) = (lists.given(), &lists.joints[..]);
         let mut value = floats(&[7.0]);
-        let mut slopes = floats(&[7.0; 2]);
+        let (mut scratch, mut slopes) = (floats(&[7.0; 2]), floats(&[7.0; 2]));
         let mut found = [objective(given, joints, &mut value), 0, 0, 0];
         for (at, call) in [gradient, gradient_finite_diff].into_iter().enumerate() {
-            let mut scratch = floats(&[7.0; 2]);
             found[1 + at] = call(given, joints, &mut scratch, &mut value, &mut slopes);
         }
+        let (mut raised, mut links) = (u16s(&[7; 5]), u16s(&[7; 5]));
+        let mut poses = floats(&[7.0; 35]);
         let record = Record {
-            joints: &mut u16s(&[7; 5]),
-            links: &mut u16s(&[7; 5]),
-            poses: &mut floats(&[7.0; 35]),
+            joints: &mut raised,
+            links: &mut links,
+            poses: &mut poses,
         };
         found[3] = gradient_one_block(given, joints, &mut value, &mut slopes, record);
-        let kept = value == floats(&[7.0]) && slopes == floats(&[7.0; 2]);
+        let sevens = |list: &Vec<u8>| *list == floats(&vec![7.0; list.len() / 8]);
+        let kept = [value, scratch, slopes, poses].iter().all(sevens)
+            && [raised, links].iter().all(|list| *list == u16s(&[7; 5]));
         assert_eq!(kept, found != [0; 4]);
         found
+    }
+
+    /// As in update, which sees the joints and a history in the same way.
+    #[test]
+    fn each_block_has_the_ranges_of_its_joints() {
+        for (code, value, answer) in ends() {
+            let mut lists = aimed(&[43, code], &[0.0, 0.0]);
+            for at in 0..5 {
+                [lists.joints, lists.history] = five_blocks([-8.0, 0.5], at, value);
+                let found = answers(&lists);
+                assert_eq!(found, [answer; 4], "code {code}, block {at} at {value:e}");
+            }
+        }
     }
 
     /// A list of some bytes that is not of eight floats is wrong, and not none.

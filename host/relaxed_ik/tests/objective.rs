@@ -4,7 +4,8 @@
 mod lists;
 
 use lists::{GOAL, UP};
-use relaxed_ik::{bytes, Given, ObjectiveList, RecordLists, Refusal, Sheet, NO_TOOLS};
+use relaxed_ik::{bytes, Given, ObjectiveList, RecordLists, Refusal, Sheet};
+use relaxed_ik::{MOST_TURN, NO_TOOLS};
 
 /// Links up 1, at rest at the joints, handed to `test`.
 fn with(codes: &[u16], joints: &[f64], test: impl FnOnce(Given)) {
@@ -85,10 +86,10 @@ fn the_lowest_number_is_answered() {
             goals: &GOAL[1..],
             ..given
         };
-        let beyond = 8.0f64.next_up();
+        let beyond = MOST_TURN.next_up();
         assert_eq!(given.objective(&[0.5, beyond]), Err(Refusal::Joints));
-        assert_eq!(given.objective(&[0.5, 8.0]), Err(Refusal::Goals));
-        assert_eq!(given.gradient(&[0.5, 8.0]), Err(Refusal::Goals));
+        assert_eq!(given.objective(&[0.5, MOST_TURN]), Err(Refusal::Goals));
+        assert_eq!(given.gradient(&[0.5, MOST_TURN]), Err(Refusal::Goals));
     });
 }
 

@@ -94,6 +94,20 @@ fn two_arms_with_sonde() -> Vec<Chain> {
     chains
 }
 
+/// The rig with a spindle at its end, which turns on as its slew ring does.
+fn rig_with_spindle() -> Vec<Chain> {
+    let mut chains = rig();
+    chains[0].links[8] = link(26, [0.0, 0.0, 0.3], STRAIGHT, FREE);
+    chains
+}
+
+/// Free joints of every kind.
+fn every_kind() -> Vec<Chain> {
+    let codes = [23, 33, 12, 43, 0, 16, 34, 45, 21];
+    let links = codes.map(|code| link(code, [0.2, 0.1, 0.3], STRAIGHT, FREE));
+    vec![Chain::new("stand", links.into())]
+}
+
 /// Slides, turned offsets and an axis of none.
 fn slides() -> Vec<Chain> {
     let quarter = std::f64::consts::FRAC_1_SQRT_2;
@@ -163,7 +177,12 @@ fn largest() -> Vec<Chain> {
 
 pub fn good() -> Vec<Sample> {
     let rig_joints = vec![0.7, -0.35, 1.1, 0.05, 0.95, 0.08, 0.1];
+    let ring = vec![38.4, -0.35, 1.1, 0.05, 0.95, 0.08, -27.3];
+    let farthest = vec![64.0, 8.0, -64.0, -8.0, 64.0, -8.0, 8.0, -64.0];
     let beside = |joints: &[f64], by: f64| -> Vec<f64> { joints.iter().map(|v| v + by).collect() };
+    let short_of = |joints: &[f64], by: f64| -> Vec<f64> {
+        joints.iter().map(|v| v - v.signum() * by).collect()
+    };
     let slid = vec![0.4, 0.9, 0.1, 0.35, 0.2, -0.6, 0.3, 0.45];
     let extended = vec![0.8, 0.3, 1.7, -0.9, 0.2, 0.6, -0.4, 0.5, 0.35];
     let both = vec![0.2, 0.5, -0.4, 0.3, 0.6, -0.1, -0.5, 0.7, 0.4];
@@ -308,6 +327,31 @@ pub fn good() -> Vec<Sample> {
             pick: Pick::Strict,
             filed: true,
         },
+        Sample {
+            file: "slew_ring",
+            about: "A slew ring that has gone round six times and counts on, and a spindle that\n\
+                    has turned the other way.",
+            hole: "Collar 36, several turns on",
+            chains: rig_with_spindle(),
+            joints: ring.clone(),
+            history: Some([-0.01, -0.02, -0.04, -0.05].map(|by| beside(&ring, by))),
+            goal: Some((beside(&ring, 0.002), [0.0, 0.0, 0.05, 0.1, 0.1, 3.2])),
+            weights: None,
+            pick: Pick::Tolerance,
+            filed: true,
+        },
+        Sample {
+            file: "farthest",
+            about: "Every joint at an end of its range: 64 where it turns, 8 where it slides.",
+            hole: "Test stand, as far as it goes",
+            chains: every_kind(),
+            joints: farthest.clone(),
+            history: Some([0.0, 0.125, 0.25, 0.5].map(|by| short_of(&farthest, by))),
+            goal: Some((short_of(&farthest, 0.0625), [0.1, 0.2, 0.0, 0.0, 0.5, 3.2])),
+            weights: None,
+            pick: Pick::Tolerance,
+            filed: true,
+        },
     ]
 }
 
@@ -341,9 +385,11 @@ pub fn arms() -> Vec<Arms> {
     ]
 }
 
-/// The first good sheet with one line changed.
+/// A good sheet with one line changed.
 pub struct Bad {
     pub file: &'static str,
+    /// The good sheet's file.
+    pub good: &'static str,
     /// The exit status that `sonde` is to have.
     pub status: u8,
     /// The start of the line that is changed.
@@ -368,9 +414,9 @@ enum Change {
 /// One line at fault is told by its number; the first line of the file says
 /// which status and which line are expected.
 impl Bad {
-    pub fn text(&self, base: &str) -> String {
+    pub fn text(&self, good: &str) -> String {
         // The first line is a comment and gives way to another.
-        let mut lines: Vec<String> = base.lines().map(str::to_string).collect();
+        let mut lines: Vec<String> = good.lines().map(str::to_string).collect();
         let at = lines.iter().position(|line| line.starts_with(self.line));
         let at = at.expect("the line is there");
         // What is told is the line changed, but for a chain with too few or too
@@ -411,33 +457,30 @@ impl Bad {
 }
 
 pub fn bad() -> Vec<Bad> {
-    let words = |file, status, line, old, new| Bad {
+    let changed = |file, status, line, change| Bad {
         file,
+        good: "collar_12",
         status,
         line,
-        change: Change::Words(old, new),
+        change,
     };
+    let words = |file, status, line, old, new| changed(file, status, line, Change::Words(old, new));
     // A line that the sheet does not have.
-    let before = |file, status, line| Bad {
-        file,
-        status,
-        line: "goal",
-        change: Change::Before(line),
-    };
+    let before = |file, status, line| changed(file, status, "goal", Change::Before(line));
     // Behind the chain's last link and its limits.
-    let tool = |file, status, line| Bad {
-        file,
-        status,
-        line: "limits -3.1",
-        change: Change::After(line),
+    let tool = |file, status, line| changed(file, status, "limits -3.1", Change::After(line));
+    // A joint that is at an end of its range, or near it.
+    let beyond = |file, line, old, new| Bad {
+        good: "farthest",
+        ..words(file, 17, line, old, new)
     };
     vec![
-        Bad {
-            file: "refused_1_too_many_links",
-            status: 11,
-            line: "link fixed",
-            change: Change::Times(9),
-        },
+        changed(
+            "refused_1_too_many_links",
+            11,
+            "link fixed",
+            Change::Times(9),
+        ),
         words(
             "refused_2_six_numbers",
             12,
@@ -459,12 +502,12 @@ pub fn bad() -> Vec<Bad> {
             "revolute x",
             "code 47",
         ),
-        Bad {
-            file: "refused_4_one_joint",
-            status: 14,
-            line: "link revolute z",
-            change: Change::Before("chain second"),
-        },
+        changed(
+            "refused_4_one_joint",
+            14,
+            "link revolute z",
+            Change::Before("chain second"),
+        ),
         words(
             "refused_5_limits_too_near",
             15,
@@ -472,12 +515,12 @@ pub fn bad() -> Vec<Bad> {
             "-1.2 1.4",
             "1.3995 1.4",
         ),
-        Bad {
-            file: "refused_5_limits_missing",
-            status: 15,
-            line: "limits -1.2 1.4",
-            change: Change::Away,
-        },
+        changed(
+            "refused_5_limits_missing",
+            15,
+            "limits -1.2 1.4",
+            Change::Away,
+        ),
         words(
             "refused_6_offset",
             16,
@@ -492,7 +535,7 @@ pub fn bad() -> Vec<Bad> {
             "0.1 0 0.2",
             "0.1 0 20",
         ),
-        words("refused_7_joint", 17, "joints", "joints 0.7", "joints 8.7"),
+        words("refused_7_joint", 17, "joints", "joints 0.7", "joints 64.7"),
         words(
             "refused_7_not_a_number",
             17,
@@ -500,6 +543,19 @@ pub fn bad() -> Vec<Bad> {
             "joints 0.7",
             "joints nan",
         ),
+        beyond(
+            "refused_7_turning_joint",
+            "joints",
+            "64 8",
+            "64.00000000000001 8",
+        ),
+        beyond(
+            "refused_7_sliding_joint",
+            "joints",
+            "8 -64",
+            "8.000000000000002 -64",
+        ),
+        beyond("refused_7_history", "history 63.5", "63.5 7.5", "63.5 63.5"),
         words("refused_8_tolerance", 18, "goal", " 3.2", " 320"),
         words(
             "refused_8_strict_tolerance",
@@ -532,12 +588,12 @@ pub fn bad() -> Vec<Bad> {
             3,
             "tool 0.04, 0, 1.1, 0.96, 0, 0.28, 0",
         ),
-        Bad {
-            file: "text_tool_before_its_chain",
-            status: 3,
-            line: "chain",
-            change: Change::Before("tool 0.04 0 1.1 0.96 0 0.28 0"),
-        },
+        changed(
+            "text_tool_before_its_chain",
+            3,
+            "chain",
+            Change::Before("tool 0.04 0 1.1 0.96 0 0.28 0"),
+        ),
         before(
             "text_weights_with_commas",
             3,
@@ -564,17 +620,18 @@ pub fn bad() -> Vec<Bad> {
             "filed boom.x 1",
         ),
         words("text_filed_of_no_chain", 3, "filed boom.y", "boom", "mast"),
-        Bad {
-            file: "differs_in_the_last_bit",
-            status: 1,
-            line: "filed boom.w",
-            change: Change::LastBit,
-        },
-        Bad {
-            file: "differs_in_the_azimuth",
-            status: 1,
-            line: "filed boom.azimuth",
-            change: Change::Words("azimuth ", "azimuth 1"),
-        },
+        changed(
+            "differs_in_the_last_bit",
+            1,
+            "filed boom.w",
+            Change::LastBit,
+        ),
+        words(
+            "differs_in_the_azimuth",
+            1,
+            "filed boom.azimuth",
+            "azimuth ",
+            "azimuth 1",
+        ),
     ]
 }

@@ -63,6 +63,13 @@ pub struct Link {
     pub row: Row,
 }
 
+impl Link {
+    /// The word of its kind; none for a code beyond the last kind's.
+    pub fn kind(&self) -> Option<&'static str> {
+        KINDS.get(usize::from(self.code / 10)).copied()
+    }
+}
+
 #[derive(Clone, Debug)]
 pub struct Chain {
     pub line: usize,

@@ -3,8 +3,9 @@
 //! it does not allow. It decides nothing: where it finds none, the number and
 //! its words stand alone.
 
-use crate::text::{Chain, File, Row};
-use relaxed_ik::{Refusal, WEIGHTS};
+use crate::text::{Chain, File, Link, Row};
+use relaxed_ik::{Refusal, MOST_SLIDE, MOST_TURN, WEIGHTS};
+use std::slice;
 
 /// A line of the file, if it is one, and what is wrong there.
 type Place = (Option<usize>, String);
@@ -196,6 +197,25 @@ fn values(rows: &[Row]) -> impl Iterator<Item = (usize, f64)> + '_ {
     rows.iter().flat_map(lined)
 }
 
+/// A joint's value, if it is not within the range of the joint's kind.
+fn beyond(joint: usize, link: &Link, v: f64) -> Option<String> {
+    let kind = link.kind()?;
+    let most = match link.code / 10 {
+        1 | 2 => MOST_TURN,
+        _ => MOST_SLIDE,
+    };
+    (!within(v, -most, most)).then(|| {
+        format!("joint {joint} is {v}, not within -{most}..{most}, the range of a {kind} joint")
+    })
+}
+
+/// The first value of a block that is so, with its line.
+fn beyond_in(file: &File, block: &[Row]) -> Option<(usize, String)> {
+    let moving = file.links().filter(|(_, _, link)| link.code != 0);
+    let mut joints = moving.zip(values(block)).enumerate();
+    joints.find_map(|(joint, ((_, _, link), (line, v)))| Some((line, beyond(joint, link, v)?)))
+}
+
 fn blocks(file: &File) -> Option<Place> {
     let joints: usize = file.chains.iter().map(Chain::joints).sum();
     let last = |rows: &[Row]| rows.last().map(|row| row.line);
@@ -204,10 +224,8 @@ fn blocks(file: &File) -> Option<Place> {
         let words = format!("a value for each of {joints} joints is needed, the sheet has {found}");
         return Some((last(&file.joints), words));
     }
-    for (joint, (line, v)) in values(&file.joints).enumerate() {
-        if !within(v, -8.0, 8.0) {
-            return at(line, format!("joint {joint} is {v}, not within -8..8"));
-        }
+    if let Some((line, words)) = beyond_in(file, &file.joints) {
+        return at(line, words);
     }
     if file.history.is_empty() {
         return None;
@@ -220,13 +238,8 @@ fn blocks(file: &File) -> Option<Place> {
                 format!("a value for each of {joints} joints is needed, history block {block} has {found}"),
             );
         }
-        for (joint, v) in row.numbers.iter().enumerate() {
-            if !within(*v, -8.0, 8.0) {
-                return at(
-                    row.line,
-                    format!("history block {block}: joint {joint} is {v}, not within -8..8"),
-                );
-            }
+        if let Some((line, words)) = beyond_in(file, slice::from_ref(row)) {
+            return at(line, format!("history block {block}: {words}"));
         }
     }
     let found = file.history.len();

@@ -520,6 +520,41 @@ filed arm.z 2 4000000000000000
         ));
     }
 
+    /// A joint of this kind behind a fixed link, and this value for it in the joints or
+    /// in a block of the history.
+    fn placed(kind: &str, at: usize, v: f64) -> File {
+        let words = ["joints", "history", "history", "history", "history"];
+        let mut lines = words.map(|word| format!("{word} 64 0"));
+        lines[at] = format!("{} 64 {v}", words[at]);
+        let links = format!("link fixed 0 0 1  1 0 0 0\nlink {kind} y");
+        let text = TWO.replace("link revolute y", &links);
+        parse(text.replace("joints 0 0", &lines.join("\n")).as_bytes()).unwrap()
+    }
+
+    #[test]
+    fn a_joint_is_told_the_range_of_its_kind() {
+        for (kind, most) in [
+            ("revolute", 64.0f64),
+            ("continuous", 64.0),
+            ("prismatic", 8.0),
+            ("telescoping", 8.0),
+        ] {
+            for (at, sign) in (0..5).flat_map(|at| [(at, 1.0), (at, -1.0)]) {
+                assert!(work(&placed(kind, at, sign * most)).is_ok(), "{kind}");
+                let beyond = sign * most.next_up();
+                let words = format!(
+                    "joint 1 is {beyond}, not within -{most}..{most}, the range of a {kind} joint"
+                );
+                let words = match at {
+                    0 => words,
+                    _ => format!("history block {}: {words}", at - 1),
+                };
+                let found = told(work(&placed(kind, at, beyond)).unwrap_err());
+                assert_eq!(found, (7, Some(8 + at), words));
+            }
+        }
+    }
+
     /// The number is the library's, the line and the value are found here.
     #[test]
     fn the_value_at_fault_is_named() {
@@ -536,14 +571,14 @@ filed arm.z 2 4000000000000000
             ("0 0 1  1", "0 -11 1  1", 6, 3, "displacement y is -11"),
             ("0 0 1  1", "0 0 1  1.1", 6, 3, "sum to 1.21"),
             ("joints 0 0", "joints 0", 7, 7, "the sheet has 1"),
-            ("joints 0 0", "joints 0 8.5", 7, 7, "joint 1 is 8.5"),
+            ("joints 0 0", "joints 0 64.5", 7, 7, "joint 1 is 64.5"),
             ("joints 0 0", &history("0 0"), 7, 8, "the sheet has 1"),
             (
                 "joints 0 0",
-                &history(&format!("{block}9")),
+                &history(&format!("{block}99")),
                 7,
                 11,
-                "block 3: joint 1 is 9",
+                "block 3: joint 1 is 99",
             ),
             ("goal 0 0 2", "goal 0 0 101", 8, 8, "position z is 101"),
             ("goal 0 0 2", "goal 0 0", 8, 8, "12 numbers"),

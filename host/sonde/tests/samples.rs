@@ -114,6 +114,36 @@ fn bad_sheets_end_as_they_say() {
     assert!(statuses.contains(&1) && statuses.contains(&3));
 }
 
+/// In words and to programs.
+#[test]
+fn a_joint_is_told_the_range_of_its_kind() {
+    for (sheet, words) in [
+        (
+            "joint",
+            "joint 0 is 64.7, not within -64..64, the range of a continuous joint",
+        ),
+        (
+            "turning_joint",
+            "joint 0 is 64.00000000000001, not within -64..64, the range of a continuous joint",
+        ),
+        (
+            "sliding_joint",
+            "joint 1 is 8.000000000000002, not within -8..8, the range of a prismatic joint",
+        ),
+        (
+            "history",
+            "history block 3: joint 1 is 63.5, not within -8..8, the range of a prismatic joint",
+        ),
+    ] {
+        let path = folder("bad").join(format!("refused_7_{sheet}.sheet"));
+        let path = path.to_str().unwrap();
+        for output in [sonde(&[path]), sonde(&[path, "--json"])] {
+            let text = said(&output);
+            assert!(text.contains(words), "{text}");
+        }
+    }
+}
+
 /// The lengths that the first line of the arms alone says, which are those of the
 /// reference run's lists; in words, too, each stands by its list.
 #[test]
@@ -236,6 +266,21 @@ fn differing(sheet: &str, word: &str, other: &str) -> (Vec<String>, Vec<String>)
 #[cfg(feature = "objective")]
 fn of_objective(figure: &String) -> bool {
     figure == "objective" || figure.starts_with("slope.")
+}
+
+/// Four turns back the ring points where it did, to the decimals that are filed; by the
+/// history, of which it seems to have left, the objective is another.
+#[cfg(feature = "objective")]
+#[test]
+fn whole_turns_leave_the_azimuth() {
+    let joints = line_of("slew_ring.sheet", "joints");
+    let back = 38.4 - 4.0 * std::f64::consts::TAU;
+    let other = joints.replace("38.4", &back.to_string());
+    assert_ne!(other, joints);
+    let (differ, _) = differing("slew_ring.sheet", "joints", &other);
+    let differs = |figure: &str| differ.iter().any(|name| name == figure);
+    assert!(!differs("boom.azimuth") && !differs("boom.inclination"));
+    assert!(differs("objective"));
 }
 
 /// The filed objective and slopes are those of the weights: with others, and with

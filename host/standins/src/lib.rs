@@ -1,7 +1,8 @@
 //! The functions outside the published files, as document 01's section
-//! 'Stand-ins' defines them, in its order, and the one that document 02 adds.
-//! Each operation rounds once, left to right. Written from the papers, apart
-//! from the proved code, so that the two can be held against each other.
+//! 'Stand-ins' defines them, in its order, with the one that document 02 adds and
+//! the reduction that it puts before sine and cosine. Each operation rounds once,
+//! left to right. Written from the papers, apart from the proved code, so that the
+//! two can be held against each other.
 
 #![forbid(unsafe_code)]
 // Formulas are spelled as the paper spells them.
@@ -12,7 +13,23 @@ pub fn sqrt(x: f64) -> f64 {
     x.sqrt()
 }
 
+/// A whole turn, as document 02's change 7 writes it.
+const TURN: f64 = 6.283185307179586;
+
+/// What the series of sine and cosine take in the place of a: beyond 4.5 in size it
+/// comes without its whole turns, counted to the nearest and ties to even. An
+/// infinity becomes a NaN.
+fn reduced(a: f64) -> f64 {
+    if a.abs() > 4.5 {
+        let k = (a / TURN).round_ties_even();
+        a - k * TURN
+    } else {
+        a
+    }
+}
+
 pub fn sin(a: f64) -> f64 {
+    let a = reduced(a);
     let q = a * a;
     let mut s = 1.0;
     for n in (1..=16).rev() {
@@ -22,6 +39,7 @@ pub fn sin(a: f64) -> f64 {
 }
 
 pub fn cos(a: f64) -> f64 {
+    let a = reduced(a);
     let q = a * a;
     let mut s = 1.0;
     for n in (1..=16).rev() {
@@ -162,15 +180,91 @@ mod tests {
         assert_eq!(sqrt(least), f64::from_bits((1023 - 537) << 52));
     }
 
+    /// Half of the largest joint, raised, and a little beyond.
     #[test]
     fn sine_and_cosine_near_the_true_ones() {
         assert_eq!(sin(0.0).to_bits(), 0.0f64.to_bits());
         assert_eq!(sin(-0.0).to_bits(), (-0.0f64).to_bits());
         assert_eq!(cos(0.0), 1.0);
-        for k in -4000..=4000 {
+        for k in -32_100..=32_100 {
             let a = f64::from(k) / 1000.0;
             assert!((sin(a) - a.sin()).abs() < 1e-13, "sine of {a}");
             assert!((cos(a) - a.cos()).abs() < 1e-13, "cosine of {a}");
+        }
+    }
+
+    /// Document 01's series alone, of sine and cosine, by their bits.
+    fn unreduced(a: f64) -> [u64; 2] {
+        let series = |divisor: fn(i32) -> i32| {
+            let step = |s: f64, n: i32| 1.0 - s * (a * a) / f64::from(divisor(n));
+            (1..=16).rev().fold(1.0, step)
+        };
+        let sine = a * series(|n| 2 * n * (2 * n + 1));
+        [sine, series(|n| (2 * n - 1) * 2 * n)].map(f64::to_bits)
+    }
+
+    fn both(a: f64) -> [u64; 2] {
+        [sin(a), cos(a)].map(f64::to_bits)
+    }
+
+    #[test]
+    fn up_to_4_5_every_bit_is_the_old_one() {
+        let least = f64::from_bits(1);
+        let mut angles = vec![4.5, 4.5f64.next_down(), 4.0, 0.0, least, f64::MIN_POSITIVE];
+        angles.extend((0..100_000).map(|k| f64::from(k) * 4.5e-5));
+        for a in angles.into_iter().flat_map(|a| [a, -a]) {
+            assert_eq!(both(a), unreduced(a), "{a:e}");
+        }
+    }
+
+    /// The floats next to 4.5, and next to where one turn becomes two.
+    #[test]
+    fn beyond_4_5_whole_turns_are_taken_off() {
+        let tie = 1.5 * TURN;
+        for (a, k) in [
+            (4.5f64.next_up(), 1.0),
+            (5.0, 1.0),
+            (tie.next_down(), 1.0),
+            (tie.next_up(), 2.0),
+            (32.0, 5.0),
+            (32.00000005, 5.0),
+        ] {
+            assert_eq!(both(a), unreduced(a - k * TURN), "{a:e}");
+            assert_eq!(both(-a), unreduced(k * TURN - a), "{:e}", -a);
+            assert_ne!(both(a), unreduced(a), "{a:e}");
+        }
+    }
+
+    /// Taken away from zero the second and the last would be reduced to -pi.
+    #[test]
+    fn ties_are_taken_to_even() {
+        for (a, k) in [
+            (9.42477796076938, 2.0),
+            (15.707963267948966, 2.0),
+            (21.991148575128552, 4.0),
+            (28.274333882308138, 4.0),
+        ] {
+            assert_eq!((a / TURN).fract(), 0.5, "{a:e}");
+            assert_eq!(reduced(a), a - k * TURN, "{a:e}");
+            assert_eq!(reduced(-a), k * TURN - a, "{:e}", -a);
+            assert_eq!(reduced(a) > 0.0, a > k * TURN, "{a:e}");
+        }
+        assert_eq!(sin(15.707963267948966).to_bits(), 0.0f64.to_bits());
+        assert_eq!(sin(-15.707963267948966).to_bits(), (-0.0f64).to_bits());
+    }
+
+    #[test]
+    fn whole_turns_leave_zero() {
+        for k in (-10..=10).filter(|k| *k != 0) {
+            let a = f64::from(k) * TURN;
+            assert_eq!(both(a), [0.0f64, 1.0].map(f64::to_bits), "{a:e}");
+        }
+    }
+
+    #[test]
+    fn no_angle_has_no_sine() {
+        for a in [f64::NAN, f64::INFINITY, f64::NEG_INFINITY] {
+            assert!(sin(a).is_nan() && cos(a).is_nan(), "{a}");
         }
     }
 

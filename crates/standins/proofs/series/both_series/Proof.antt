@@ -1,17 +1,21 @@
--- `both_series` meets its contract: each series goes by the one law of a loop that counts down.
+-- `both_series` meets its contract: each series of the reduced angle goes by the one law of a loop that counts down.
 use mathlib.Core.Path.{_≡_, refl}
 use Prim.Native.Nat.{_≤_}
 use native.Mathlib.Omega.{arith}
+use borrow.Author.Needs.{needs}
 use Rattle.standins.specs.Series.{downFrom, termOf, seriesOf, sineDivisor, cosineDivisor, term-turn, down-done}
 use Rattle.standins.proofs.series.both_series.Statement.{statement}
 use Rattle.standins.proofs.series.both_series.Tie as tie
 
 abbrev Inv-loop : tie.InvT-loop
-Inv-loop a q s₀ c₀ n₀ s c n =
+Inv-loop a angle q s₀ c₀ n₀ s c n =
     (n ≤ 16) × (downFrom (termOf sineDivisor q) n s ≡ seriesOf sineDivisor q) × (downFrom (termOf cosineDivisor q) n c ≡ seriesOf cosineDivisor q)
 
 abbrev μ-loop : tie.MeasureT-loop
-μ-loop a q s₀ c₀ n₀ s c n = n
+μ-loop a angle q s₀ c₀ n₀ s c n = n
+
+reduced-requires : tie.Need-reduced-requires Inv-loop μ-loop
+reduced-requires c κs = search needs
 
 loop-holds : tie.Need-loop-holds Inv-loop μ-loop
 unfolding seriesOf
@@ -52,7 +56,7 @@ returns c =
     let l = c .before .loop in
     let s : l .s ≡ seriesOf sineDivisor _ = down-done (termOf sineDivisor _) (l .n) _ _ (omega arith) (l .inv .1) in
     let k : l .c ≡ seriesOf cosineDivisor _ = down-done (termOf cosineDivisor _) (l .n) _ _ (omega arith) (l .inv .2) in
-    rw (s, k)
+    rw (s, k, c .before .before .reduced .ensures)
 
 pub both-series-spec : {M : Type 1} → statement M
 both-series-spec =
@@ -60,6 +64,7 @@ both-series-spec =
     (tie.spec
     Inv-loop
     μ-loop
+    reduced-requires
     loop-holds
     mul-divisor
     divisor-requires

@@ -1,0 +1,1 @@
+// How far the stand-ins reach, in specs/. No code.

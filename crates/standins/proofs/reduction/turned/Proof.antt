@@ -1,0 +1,15 @@
+-- `turned` meets its contract: the product is that of the whole number nearest to a / 6.283185307179586.
+use borrow.Author.Needs.{needs}
+use Rattle.standins.specs.Reduction.{turnedOf}
+use Rattle.standins.proofs.reduction.turned.Statement.{statement}
+use Rattle.standins.proofs.reduction.turned.Tie as tie
+
+nearest-whole-requires : tie.Need-nearest-whole-requires
+nearest-whole-requires c κs = search needs
+
+returns : tie.Need-returns
+unfolding turnedOf
+returns c = rw (c .nearest-whole .ensures .0)
+
+pub turned-spec : {M : Type 1} → statement M
+turned-spec = tie.close (tie.spec nearest-whole-requires returns)
