@@ -1,6 +1,6 @@
 -- Every joint of a block that is taken is answered, as it stands and raised: sine and cosine of its half are numbers.
-use mathlib.Core.Path.{_≡_, sym}
-use mathlib.Core.Bool.{true, false, false≢true}
+use mathlib.Core.Path.{_≡_}
+use mathlib.Core.Bool.{true, false}
 use mathlib.Core.List.{List}
 use Prim.Native.Nat.{ℕ, _+_, _*_, _≤_, _<_}
 use native.Mathlib.Omega.{arith}
@@ -8,32 +8,24 @@ use lib.IntN.{ℤ}
 use lib.Dec.{T, lit≤}
 use lib.Ieee.{Float, nan, inf, fin, up, down, neg, ofBits, le}
 use lib.ListN.{length, getD}
-use Rattle.lists.specs.Tests.{and-true}
-use Rattle.whole.specs.Sizes.{says}
 use Rattle.standins.specs.Num.{_⊕_, _⊗_, half, one, absOf}
 use Rattle.sheet.specs.declared.code.Kind.{Kind}
 use Rattle.sheet.specs.declared.code.Kind.the-variants.{Fixed, Turning, Sliding, Telescoping, Unlisted}
 use Rattle.sheet.specs.Code.{hasJoint, kindOf}
 use Rattle.sheet.specs.Chain.{jointOf}
-use Rattle.refusals.specs.Range.{within}
+use Rattle.refusals.specs.Range.{within, AtMost, within-size}
 use Rattle.refusals.specs.Refusal.{jointRange, blockRefusal}
 use Rattle.refusals.specs.Plain.{block-values}
 use Rattle.accuracy.specs.Answered.{Most, most-more, crossed, le-most, add-most, Answered, half-answered}
 
 -- what is within a range is at most its bound in size
 within-most : (v : Float) (n : ℕ) (f : ℤ) (k : ℕ) → within (fin false n f) v ≡ true → n * up f ≤ k * down f → Most k v
-unfolding within neg le
-within-most nan n f k h l = absurd (false≢true h)
-within-most (inf true) n f k h l = absurd (false≢true h)
-within-most (inf false) n f k h l = absurd (false≢true h)
-within-most (fin false m e) n f k h l =
-    let a = m * up e * down f in
-    let b = n * up f * down e in
-    crossed m n k e f (says a b a b (λ (q : a ≡ b). q) (and-true (le (fin true n f) (fin false m e)) (le (fin false m e) (fin false n f)) h .1)) l
-within-most (fin true m e) n f k h l =
-    let a = m * up e * down f in
-    let b = n * up f * down e in
-    crossed m n k e f (says a b b a (λ (q : b ≡ a). sym q) (and-true (le (fin true n f) (fin true m e)) (le (fin true m e) (fin false n f)) h .0)) l
+within-most v n f k h l = go v (within-size n f v h)
+  where
+    go : (v : Float) → AtMost n f v → Most k v
+    go nan i = i
+    go (inf s) i = i
+    go (fin s m e) i = crossed m n k e f i l
 
 joint-most : (k : Kind) (v : Float) → within (jointRange k) v ≡ true → Most 64 v
 unfolding jointRange ofBits

@@ -53,7 +53,7 @@ eight-fits (Telescoping a) v h = h
 eight-fits Unlisted v h = h
 
 -- ---- laws: a block is taken exactly where it has a value for each joint, within the range of the joint's link
--- value l of a block, which starts at at, is within the range of link l
+-- the value of link l's joint, in the block that starts at at, is within the link's range
 abbrev pub LinkWithin : List ℕ → List Float → ℕ → ℕ → Type 0
 LinkWithin cs xs at l = hasJoint (getD cs l 0) ≡ true → within (jointRange (kindOf (getD cs l 0))) (getD xs (at + jointOf cs l) nan) ≡ true
 
@@ -79,15 +79,12 @@ module _ (cs : List ℕ) where
       pick l h false q = refl
 
   -- what is within -8..8 fits, whatever the codes
-  near-block : (xs : List Float) (at : ℕ) → every (withinAt eight xs at) (joints cs) ≡ true → blockFits cs xs at ≡ true
+  pub near-block : (xs : List Float) (at : ℕ) → every (withinAt eight xs at) (joints cs) ≡ true → blockFits cs xs at ≡ true
   unfolding withinAt
   near-block xs at e = link-block xs at (λ l h j. eight-fits (kindOf (getD cs l 0)) _ (every-at (withinAt eight xs at) (joints cs) (jointOf cs l) e (inside l h j)))
     where
       inside : (l : ℕ) → l < length cs → hasJoint (getD cs l 0) ≡ true → jointOf cs l < joints cs
       inside l h j = omega (arith, joint-more cs l, joints-one (getD cs l 0) (joint-there (getD cs l 0) j), joint-mono cs (l + 1) (length cs) (omega (arith, h)), joint-last cs)
-
-  pub near-taken : (x : List Float) → every (withinAt eight x 0) (joints cs) ≡ true → blockFits cs x 0 ≡ true
-  near-taken x e = near-block x 0 e
 
   pub near-history : (xs : List Float) → every (withinAt eight xs 0) (4 * joints cs) ≡ true → every (historyFits cs xs) 4 ≡ true
   unfolding historyFits withinAt

@@ -121,27 +121,40 @@ every-across f zero n = sym (every-all n)
 every-across f (suc m) n =
     ap (λ (b : Bool). b && every (f m) n) (every-across f m n) ∙ every-both (λ (i : ℕ). every (λ (b : ℕ). f b i) m) (f m) n
 
--- ---- laws: a range holds what a narrower one holds
-module _ (m n p : ℕ) (e f g : ℤ) (narrower : m * up e * down f < n * up f * down e) where
-  inside : p * up g * down e ≤ m * up e * down g → p * up g * down f < n * up f * down g
-  inside h =
-      lt-of-mul-lt-mul-right (down e)
-      (lt-of-le-of-lt (le-trans (le-of-eq (mul-right-comm (p * up g) (down f) (down e))) (mul-le-mul-right (down f) h))
-      (lt-of-le-of-lt (le-of-eq (mul-right-comm (m * up e) (down g) (down f)))
-      (lt-of-lt-of-le (mul-lt-mul-of-pos-right narrower (down-pos g)) (le-of-eq (mul-right-comm (n * up f) (down e) (down g))))))
+-- ---- laws: what is within a range is at most its bound in size, and within every wider range
+-- v is finite, and at most m * 2 ^ e in size
+abbrev pub AtMost : ℕ → ℤ → Float → Type 0
+AtMost m e nan = ⊥
+AtMost m e (inf s) = ⊥
+AtMost m e (fin s p g) = p * up g * down e ≤ m * up e * down g
+
+pub within-size : (m : ℕ) (e : ℤ) (v : Float) → within (fin false m e) v ≡ true → AtMost m e v
+unfolding within neg le
+within-size m e nan h = absurd (false≢true h)
+within-size m e (inf true) h = absurd (false≢true h)
+within-size m e (inf false) h = absurd (false≢true h)
+within-size m e (fin false p g) h =
+    let b = p * up g * down e in
+    let c = m * up e * down g in
+    says b c b c (λ (q : b ≡ c). q) (and-true (le (fin true m e) (fin false p g)) (le (fin false p g) (fin false m e)) h .1)
+within-size m e (fin true p g) h =
+    let b = p * up g * down e in
+    let c = m * up e * down g in
+    says b c c b (λ (q : c ≡ b). sym q) (and-true (le (fin true m e) (fin true p g)) (le (fin true p g) (fin false m e)) h .0)
+
+below : (m n p : ℕ) (e f g : ℤ) → m * up e * down f < n * up f * down e → p * up g * down e ≤ m * up e * down g → p * up g * down f < n * up f * down g
+below m n p e f g l h =
+    lt-of-mul-lt-mul-right (down e)
+    (lt-of-le-of-lt (le-trans (le-of-eq (mul-right-comm (p * up g) (down f) (down e))) (mul-le-mul-right (down f) h))
+    (lt-of-le-of-lt (le-of-eq (mul-right-comm (m * up e) (down g) (down f)))
+    (lt-of-lt-of-le (mul-lt-mul-of-pos-right l (down-pos g)) (le-of-eq (mul-right-comm (n * up f) (down e) (down g))))))
 
 pub wider : (m n : ℕ) (e f : ℤ) (v : Float) → m * up e * down f < n * up f * down e → within (fin false m e) v ≡ true → within (fin false n f) v ≡ true
 unfolding within neg le
-wider m n e f nan l h = absurd (false≢true h)
-wider m n e f (inf true) l h = absurd (false≢true h)
-wider m n e f (inf false) l h = absurd (false≢true h)
-wider m n e f (fin false p g) l h =
-    let b = p * up g * down e in
-    let c = m * up e * down g in
-    let i = inside m n p e f g l (says b c b c (λ (q : b ≡ c). q) (and-true (le (fin true m e) (fin false p g)) (le (fin false p g) (fin false m e)) h .1)) in
-    rw (lt-ltb _ _ i, lt-ltb 0 (n * up f * down g + p * up g * down f) (omega (arith, i)))
-wider m n e f (fin true p g) l h =
-    let b = p * up g * down e in
-    let c = m * up e * down g in
-    let i = inside m n p e f g l (says b c c b (λ (q : c ≡ b). sym q) (and-true (le (fin true m e) (fin true p g)) (le (fin true p g) (fin false m e)) h .0)) in
-    rw (lt-ltb _ _ i, lt-ltb 0 (p * up g * down f + n * up f * down g) (omega (arith, i)))
+wider m n e f v l h = go v (within-size m e v h)
+  where
+    go : (v : Float) → AtMost m e v → within (fin false n f) v ≡ true
+    go nan k = absurd k
+    go (inf s) k = absurd k
+    go (fin false p g) k = let i = below m n p e f g l k in rw (lt-ltb _ _ i, lt-ltb 0 (n * up f * down g + p * up g * down f) (omega (arith, i)))
+    go (fin true p g) k = let i = below m n p e f g l k in rw (lt-ltb _ _ i, lt-ltb 0 (p * up g * down f + n * up f * down g) (omega (arith, i)))

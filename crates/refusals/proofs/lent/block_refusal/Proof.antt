@@ -5,7 +5,7 @@ use denote.Ref.{now}
 use borrow.Author.Tests.{eq-eqb, ne-eqb}
 use Rattle.refusals.specs.Range.{every}
 use Rattle.refusals.specs.Refusal.{badBlock, blockRefusal}
-use Rattle.refusals.specs.Plain.{near-taken}
+use Rattle.refusals.specs.Plain.{near-block}
 use borrow.Author.Needs.{needs}
 use Rattle.refusals.proofs.lent.block_refusal.Statement.{statement}
 use Rattle.refusals.proofs.lent.block_refusal.Tie as tie
@@ -26,7 +26,7 @@ returns-2 c =
     let e = c .before .before in
     let s = e .before .before .before .before in
     let n = e .if1 .left ∙ e .before .block-length .ensures in
-    rw (eq-eqb _ _ n, near-taken (now (s .args .codes)) (now (s .args .block)) (ap (every _) (sym n) ∙ sym (c .before .all-within .ensures) ∙ c .if2 .taken))
+    rw (eq-eqb _ _ n, near-block (now (s .args .codes)) (now (s .args .block)) 0 (ap (every _) (sym n) ∙ sym (c .before .all-within .ensures) ∙ c .if2 .taken))
 
 block-fits-requires : tie.Need-block-fits-requires
 block-fits-requires c κs = let e = c .before .before in omega (arith, e .if1 .left, e .before .block-length .ensures)
