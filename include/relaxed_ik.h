@@ -21,8 +21,7 @@
  *
  * Joints. A joint that turns, revolute or continuous, is within -64..64, so that a slew ring can count on through its turns; one that slides,
  * prismatic or telescoping, is within -8..8. The blocks of a history are ranged as the joints are. Velocity, acceleration and jerk go by the
- * values as they stand: a ring whose count is begun again seems to have moved, until a reset or three
- * updates.
+ * values as they stand: a ring whose count is begun again seems to have moved, until a reset or three updates.
  *
  * Slides. A prismatic joint moves its link along the base's axis, whatever the arm has turned before it; without axis its displacement counts
  * for nothing either. A telescoping joint is URDF's prismatic one: it moves along its own axis, as the arm and the link's own offset have
