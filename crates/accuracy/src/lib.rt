@@ -1,1 +1,2 @@
+#![tactic(auto)]
 // How far the stand-ins reach, in specs/. No code.

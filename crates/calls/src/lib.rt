@@ -1,3 +1,4 @@
+#![tactic(auto)]
 // What each call answers on lists that are lent, once the arms are known to be good.
 pub mod answer;
 pub mod frames;

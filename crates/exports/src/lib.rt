@@ -1,3 +1,4 @@
+#![tactic(auto)]
 // The functions that C and Rust call, on numbers and byte slices.
 pub mod arms;
 pub mod losses;

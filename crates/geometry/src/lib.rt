@@ -1,3 +1,4 @@
+#![tactic(auto)]
 // Vectors, quaternions and poses by value, and what is built on them.
 pub mod matrix;
 pub mod pose;

@@ -6,7 +6,7 @@ use crate::quaternion::Quat;
 use crate::vector::Vec3;
 use crate::{quaternion, vector};
 
-#[derive(Drop)]
+#[derive(Clone, Copy)]
 pub struct Pose {
     pub position: Vec3,
     pub rotation: Quat,

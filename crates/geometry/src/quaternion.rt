@@ -6,7 +6,7 @@ use crate::vector;
 use crate::vector::Vec3;
 use standins::{cut, series};
 
-#[derive(Drop)]
+#[derive(Clone, Copy)]
 pub struct Quat {
     pub w: f64,
     pub i: f64,

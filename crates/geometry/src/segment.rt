@@ -7,7 +7,7 @@ use crate::vector::Vec3;
 use standins::cut;
 
 // How far along the first and the second segment the nearest points lie, in shares of their lengths.
-#[derive(Drop)]
+#[derive(Clone, Copy)]
 struct Parameters {
     s: f64,
     t: f64,

@@ -13,7 +13,7 @@ use task::parts;
 use task::picks::Picks;
 
 // What is asked of a joint: its slope under a rule, where the objective's value is f_0.
-#[derive(Drop)]
+#[derive(Clone, Copy)]
 struct Asked {
     rule: Rule,
     joint: usize,

@@ -8,7 +8,7 @@ ghost use Rattle.gradient.specs.Slopes.{slope_between, step_of, slope_by};
 use objective_master::weights;
 
 // What a slope is of: of each loss, weighted and added (`gradient`), or of the weighted sum (`gradient_finite_diff`).
-#[derive(Drop)]
+#[derive(Clone, Copy)]
 pub enum Rule {
     EachLoss,
     WeightedSum,

@@ -3,7 +3,7 @@ ghost use Rattle.std.specs.Prelude.{◌≡◌, ◌≤◌, length};
 ghost use Rattle.groove.specs.Loss.{groove_loss, scaled_of, bounds_penalty, swamp_groove_loss, swamp_loss, evaluate_of, narrow_of, room_loss, position_loss, rotation_loss, pair_loss, manipulability_loss, free_of, limits_loss, change_loss, strict_loss, match_ee_posi_dof, match_ee_rota_dof, self_collision, maximize_manipulability, each_joint_limits, minimize_velocity, minimize_acceleration, minimize_jerk, match_ee_pos_goals, match_ee_quat_goals, roots_of, changes_of, any_nan};
 
 // The losses by kind, each with its own centre, bounds, widths and factors.
-#[derive(Drop)]
+#[derive(Clone, Copy)]
 pub enum Loss {
     Groove {
         t: f64,
@@ -30,7 +30,7 @@ pub enum Loss {
 }
 
 // How much the joints move, as norms over the joints.
-#[derive(Drop)]
+#[derive(Clone, Copy)]
 pub struct Changes {
     pub velocity: f64,
     pub acceleration: f64,

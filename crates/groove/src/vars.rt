@@ -2,7 +2,7 @@
 ghost use Rattle.std.specs.Prelude.{◌≡◌, ◌≤◌, length};
 ghost use Rattle.groove.specs.Vars.{padded, reset_of, update_of};
 
-#[derive(Drop)]
+#[derive(Clone, Copy)]
 pub struct History {
     pub joints: usize,
     pub xopt: [f64; 16],

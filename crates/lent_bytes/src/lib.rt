@@ -1,3 +1,4 @@
+#![tactic(auto)]
 // Lists that are lent as little-endian bytes.
 pub mod bytes;
 pub mod lent;

@@ -5,7 +5,7 @@ ghost use Rattle.lent_bytes.specs.Optional.{optional_in, count_of};
 
 use crate::lent;
 
-#[derive(Drop)]
+#[derive(Clone, Copy)]
 pub enum Optional {
     // No byte at all: left out.
     Empty,

@@ -4,7 +4,7 @@ ghost use Rattle.lent_bytes.specs.SheetLists.{SheetHeld, sheet_in};
 use crate::lent;
 
 // How many elements of each list were decoded.
-#[derive(Drop)]
+#[derive(Clone, Copy)]
 pub struct SheetCounts {
     pub sizes: usize,
     pub codes: usize,

@@ -4,7 +4,7 @@ ghost use Rattle.lent_bytes.specs.SheetLists.{TaskHeld, goals_in, history_in, bl
 use crate::lent;
 
 // How many floats of each list were decoded.
-#[derive(Drop)]
+#[derive(Clone, Copy)]
 pub struct TaskCounts {
     pub goals: usize,
     pub history: usize,

@@ -17,7 +17,7 @@ use spacetime::{arm, floats};
 use standins::cut;
 
 // What the walk of a chain carries beside the matrix.
-#[derive(Drop)]
+#[derive(Clone, Copy)]
 pub struct Fill {
     pub column: usize,
     pub axis: Vec3,

@@ -1,3 +1,4 @@
+#![tactic(auto)]
 // The byte calls on the objective and its slopes.
 pub mod objective_lists;
 pub mod objectives;

@@ -1,3 +1,4 @@
+#![tactic(auto)]
 // objective_master.rs: the list of objectives, what each costs, and the weighted sum.
 pub mod count;
 pub mod losses;

@@ -26,7 +26,7 @@ use task::parts;
 use task::picks::Picks;
 
 // What was walked again: the links from..to, with `joint` raised. All links are new in a first walk, and so are all joints (65535).
-#[derive(Drop)]
+#[derive(Clone, Copy)]
 pub struct Walked {
     pub from: usize,
     pub to: usize,

@@ -27,7 +27,7 @@ use task::parts;
 use task::picks::Picks;
 
 // A link's turn in the loop over what is walked again, and where that loop stands.
-#[derive(Drop)]
+#[derive(Clone, Copy)]
 struct Turn {
     link: usize,
     here: Place,

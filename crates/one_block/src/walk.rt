@@ -16,7 +16,7 @@ use sheet::chain;
 use spacetime::{arm, floats};
 
 // Where a walk stands: the record's next entry, the next joint, and the pose after the link before.
-#[derive(Drop)]
+#[derive(Clone, Copy)]
 pub struct Place {
     pub at: usize,
     pub joint: usize,

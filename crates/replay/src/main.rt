@@ -1,3 +1,4 @@
+#![tactic(auto)]
 // Replays the stored list of the reference's answers, read from standard input, on the proved code, and says for each call how many cases differ.
 mod cases;
 mod damage;

@@ -8,7 +8,7 @@ use crate::cases;
 use replay_calls::table;
 use stored_answers::stored;
 
-#[derive(Drop)]
+#[derive(Clone, Copy)]
 pub struct Counts {
     pub cases: usize,
     pub differ: usize,

@@ -1,3 +1,4 @@
+#![tactic(auto)]
 // The correctly rounded square root of an f64.
 ghost use Rattle.std.specs.Prelude.{◌≡◌, true, ℕ, ◌+◌, ◌-◌, ◌*◌, ◌^◌, ◌<◌, ◌≤◌};
 ghost use Rattle.root.specs.Whole.{Digits, EvenOf, PartsOf, PatternOf};
@@ -16,7 +17,7 @@ const P55: u64 = 36028797018963968;
 const INFINITY: u64 = 9218868437227405312;
 
 // x in units of 2^-1074, times 2^52, is a * 4^h.
-#[derive(Drop)]
+#[derive(Clone, Copy)]
 struct Scaled {
     a: u64,
     h: u64,

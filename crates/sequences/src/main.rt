@@ -1,3 +1,4 @@
+#![tactic(auto)]
 // Plays stored sequences of calls on the state, read from standard input, on the proved code, and says for each call how many steps differ.
 mod agree;
 mod asked;

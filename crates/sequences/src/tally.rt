@@ -9,7 +9,7 @@ use state_calls::state;
 use state_calls::state::State;
 use stored_answers::stored;
 
-#[derive(Drop)]
+#[derive(Clone, Copy)]
 pub struct Counts {
     pub cases: usize,
     pub differ: usize,

@@ -5,7 +5,7 @@ ghost use Rattle.sheet.specs.Read.{kind_at};
 use super::code::{Kind, take_apart};
 
 // The lent codes list and the next link.
-#[derive(Drop)]
+#[derive(Clone, Copy)]
 pub struct Reader<'a> {
     pub codes: &'a [u16],
     pub link: usize,

@@ -10,7 +10,7 @@ use refusals::lengths;
 use task::picks::Picks;
 
 // Floats of the lists of positions and of rotations of `frames`, objectives, and entries of the record of `gradient_one_block`.
-#[derive(Drop)]
+#[derive(Clone, Copy)]
 pub struct Plan {
     pub positions: usize,
     pub rotations: usize,
@@ -18,7 +18,7 @@ pub struct Plan {
     pub entries: usize,
 }
 
-#[derive(Drop)]
+#[derive(Clone, Copy)]
 pub enum Sizing {
     Planned(Plan),
     Refused(u16),

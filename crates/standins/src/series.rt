@@ -14,7 +14,7 @@ fn divisor(k: usize) -> f64
 }
 
 // The reduced angle, and the series of the sine and of the cosine of its square.
-#[derive(Drop)]
+#[derive(Clone, Copy)]
 struct BothSeries {
     angle: f64,
     sine: f64,
@@ -43,7 +43,7 @@ fn both_series(a: f64) -> BothSeries
 }
 
 // The sine and the cosine of one angle.
-#[derive(Drop)]
+#[derive(Clone, Copy)]
 pub struct SineCosine {
     pub sine: f64,
     pub cosine: f64,

@@ -1,3 +1,4 @@
+#![tactic(auto)]
 // The state, every refusal, and the calls on the state.
 pub mod arms;
 pub mod load;

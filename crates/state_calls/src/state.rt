@@ -7,7 +7,7 @@ use refusals::shape;
 use sheet::chain;
 
 // The sheet, each list with zeros behind it; no chains: no arms. A chain's tool is eight floats, 1 where it has one, then displacement and offset; loading leaves none.
-#[derive(Drop)]
+#[derive(Clone, Copy)]
 pub struct Arms {
     pub sizes: [u16; 5],
     pub codes: [u16; 64],
@@ -17,14 +17,14 @@ pub struct Arms {
 }
 
 // A weight for each kind of objective, and whether they are loaded; until then the built-in ones serve.
-#[derive(Drop)]
+#[derive(Clone, Copy)]
 pub struct Weights {
     pub loaded: bool,
     pub list: [f64; 8],
 }
 
 // What one party sets over the arms: its goals, its history, and the end poses at its last reset.
-#[derive(Drop)]
+#[derive(Clone, Copy)]
 pub struct Party {
     pub has_goals: bool,
     pub goals: [f64; 52],
@@ -33,7 +33,7 @@ pub struct Party {
     pub start_poses: [f64; 28],
 }
 
-#[derive(Drop)]
+#[derive(Clone, Copy)]
 pub struct State {
     pub arms: Arms,
     pub weights: Weights,
@@ -41,14 +41,14 @@ pub struct State {
 }
 
 // A call's number, 0 where it was accepted, and the state after it.
-#[derive(Drop)]
+#[derive(Clone, Copy)]
 pub struct Outcome {
     pub number: u16,
     pub state: State,
 }
 
 // Whether there are arms, and how many chains and links they have.
-#[derive(Drop)]
+#[derive(Clone, Copy)]
 pub struct Counts {
     pub loaded: bool,
     pub chains: usize,

@@ -1,3 +1,4 @@
+#![tactic(auto)]
 // What the calls, the gradients and the losses hand on as one value: a list of floats, each part at a fixed place.
 pub mod lay;
 pub mod parts;

@@ -1,3 +1,4 @@
+#![tactic(auto)]
 // The whole number nearest to an f64.
 ghost use Rattle.std.specs.Prelude.{◌≡◌};
 ghost use Rattle.whole.specs.Whole.{whole_of, IsNearestWhole};
