@@ -1,0 +1,8 @@
+-- `pose_refusal` meets its contract: by what its calls ensure.
+use Rattle.calls.specs.Frames.{pose_refusal}
+use borrow.Author.Rules.{rules}
+use Rattle.calls.proofs.frames.pose_refusal.Goals as goal
+
+pub returns : goal.returns
+unfolding pose_refusal
+returns c = cc

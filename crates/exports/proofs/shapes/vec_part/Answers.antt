@@ -1,0 +1,22 @@
+-- `vec_part` meets its contract: each return follows the tests before it.
+use borrow.Author.Tests.{eq-eqb, ne_eqb}
+use Rattle.standins.specs.Num.{nought-over-nought}
+use Rattle.exports.specs.Parts.{vec_part}
+use borrow.Author.Rules.{rules}
+use Rattle.exports.proofs.shapes.vec_part.Goals as goal
+
+pub returns-then-part-eq0 : goal.returns-then-part-eq0
+unfolding vec_part
+returns-then-part-eq0 c = rw (eq-eqb _ 0 c.if-part-eq0.true)
+
+pub returns-then-part-eq1 : goal.returns-then-part-eq1
+unfolding vec_part
+returns-then-part-eq1 c = rw (ne_eqb _ 0 c.if-part-eq0.false, eq-eqb _ 1 c.if-part-eq1.true)
+
+pub returns-then-part-eq2 : goal.returns-then-part-eq2
+unfolding vec_part
+returns-then-part-eq2 c = rw (ne_eqb _ 0 c.if-part-eq0.false, ne_eqb _ 1 c.if-part-eq1.false, eq-eqb _ 2 c.if-part-eq2.true)
+
+pub returns : goal.returns
+unfolding vec_part
+returns c = rw (ne_eqb _ 0 c.if-part-eq0.false, ne_eqb _ 1 c.if-part-eq1.false, ne_eqb _ 2 c.if-part-eq2.false) nought-over-nought

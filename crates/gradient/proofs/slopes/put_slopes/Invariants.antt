@@ -1,0 +1,15 @@
+-- `put_slopes` meets its contract: turn after turn one slope more.
+use mathlib.Core.Path.{◌≡◌, refl, ap, ◌∙◌}
+use Prim.Native.Nat.{ℕ, ◌-◌, ◌≤◌}
+use native.Mathlib.Omega.{arith}
+use lib.ListN.{length, length-set}
+use Rattle.lists.specs.Splice.{splice}
+use Rattle.lists.specs.Listed.{listed, listed-none, listed-turn}
+use Rattle.gradient.specs.Slopes.{slope_between, loss-left, slope-made}
+use Rattle.gradient.proofs.slopes.put_slopes.Given as goal
+
+abbrev pub invariant-loop-i : goal.invariant-loop-i
+invariant-loop-i l = (l.i ≤ l.n) × (length l.f_hs ≡ length l.initial.f_hs) × (l.f_hs ≡ splice l.initial.f_hs 0 (listed (slope_between l.f_0s l.initial.f_hs) l.i))
+
+abbrev pub decreases-loop-i : goal.decreases-loop-i
+decreases-loop-i l = l.n - l.i

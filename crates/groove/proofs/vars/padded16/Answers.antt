@@ -1,0 +1,8 @@
+use Rattle.groove.specs.Vars.{padded}
+use borrow.Author.Rules.{rules}
+use Rattle.groove.proofs.vars.padded16.Goals as goal
+
+-- src/vars.rt:16:1
+pub returns : goal.returns
+unfolding padded
+returns c = c.copy_floats.ensures

@@ -1,0 +1,15 @@
+-- `floats` meets its contract: turn after turn one float more.
+use mathlib.Core.Path.{◌≡◌, refl, ap, ◌∙◌}
+use Prim.Native.Nat.{◌-◌, ◌≤◌}
+use native.Mathlib.Omega.{arith}
+use lib.ListN.{length, length-set}
+use Rattle.lists.specs.Splice.{splice}
+use Rattle.lists.specs.Listed.{listed, listed-none, listed-turn, listed-whole}
+use Rattle.lent_bytes.specs.Bytes.{float_at}
+use Rattle.lent_bytes.proofs.bytes.floats.Given as goal
+
+abbrev pub invariant-loop-i : goal.invariant-loop-i
+invariant-loop-i l = (l.i ≤ length l.out) × (length l.out ≡ length l.initial.out) × (l.out ≡ splice l.initial.out 0 (listed (float_at l.b) l.i))
+
+abbrev pub decreases-loop-i : goal.decreases-loop-i
+decreases-loop-i l = length l.out - l.i

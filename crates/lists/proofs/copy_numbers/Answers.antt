@@ -1,0 +1,21 @@
+use mathlib.Core.Path.{◌≡◌, refl, ◌∙◌}
+use Prim.Native.Nat.{◌-◌, ◌≤◌}
+use native.Mathlib.Omega.{arith}
+use lib.ListN.{length, length-set}
+use Rattle.lists.specs.Listed.{copied, copied_none, copied-turn, copied-whole}
+use borrow.Author.Rules.{rules}
+use Rattle.lists.proofs.copy_numbers.Goals as goal
+
+pub loop-i-init : goal.loop-i-init
+loop-i-init c = (omega arith, refl, copied_none 0 _ _)
+
+pub loop-i-preserved : goal.loop-i-preserved
+loop-i-preserved c =
+    let l = c.loop-i in
+    (omega arith, simp length-set l.invariant.1, copied-turn 0 _ _ _ l.i (omega (arith, c.requires)) l.invariant.1 l.invariant.2)
+
+pub shape_of-dst : goal.shape_of-dst
+shape_of-dst c = c.loop-i.invariant.1
+
+pub returns : goal.returns
+returns c = let l = c.loop-i in l.invariant.2 ∙ copied-whole 0 _ _ l.i (omega arith)

@@ -1,0 +1,20 @@
+-- `objective_count` meets its contract: turn after turn one chain's pairs more.
+use mathlib.Core.Path.{◌≡◌, refl, sym, ap, ◌∙◌}
+use Prim.Native.Nat.{ℕ, ◌+◌, ◌-◌, ◌*◌, ◌≤◌, ◌<◌}
+use native.Mathlib.Omega.{arith}
+use lib.ListN.{length, get_or}
+use Rattle.lists.specs.Runs.{runs, runs_none}
+use Rattle.sheet.specs.Chain.{chain_start, chain-start-next, joint_of, joint-zero, joint-mono, joint-last, chain_length}
+use Rattle.sheet.specs.ChainTurn.{length-here}
+use Rattle.manipulability.specs.Jacobian.{Part, chain-part}
+use Rattle.self_collision.specs.Pairs.{chain_pairs, first_arm, chain_lengths, count-more, chain-count}
+use Rattle.objective_master.specs.Count.{count-is}
+use Rattle.objective_master.proofs.count.objective_count.Given as goal
+
+abbrev pub invariant-loop-c : goal.invariant-loop-c
+invariant-loop-c l =
+    (l.c ≤ length l.counts) × (l.l ≡ chain_start l.counts l.c) × (l.joint ≡ joint_of l.codes l.l) × (l.joint ≤ 16)
+    × (l.s ≡ length (runs (chain_pairs first_arm (chain_lengths l.counts l.codes)) 0 l.c)) × (l.s ≤ 256 * l.c)
+
+abbrev pub decreases-loop-c : goal.decreases-loop-c
+decreases-loop-c l = length l.counts - l.c

@@ -1,0 +1,18 @@
+-- `put_goals` meets its contract: turn after turn one chain more.
+use mathlib.Core.Path.{◌≡◌, refl, ap, ◌∙◌}
+use mathlib.Core.List.{List}
+use Prim.Native.Nat.{ℕ, ◌+◌, ◌-◌, ◌*◌, ◌≤◌}
+use native.Mathlib.Nat.{mul-le-mul_right}
+use native.Mathlib.Omega.{arith}
+use lib.ListN.{length}
+use Rattle.lists.specs.Splice.{splice, length-splice}
+use Rattle.lists.specs.Runs.{runs, length_runs, splice-none, splice-turn-at}
+use Rattle.objective_master.specs.Objective.{goal_width}
+use Rattle.objective_master.specs.Kinds.{goal_kinds, goal-kinds}
+use Rattle.objective_master.proofs.relaxed_ik.put_goals.Given as goal
+
+abbrev pub invariant-loop-c : goal.invariant-loop-c
+invariant-loop-c l = (l.c ≤ l.chains) × (length l.kinds ≡ length l.initial.kinds) × (l.kinds ≡ splice l.initial.kinds 0 (runs (λ _. goal_kinds l.picks.strict) 0 l.c))
+
+abbrev pub decreases-loop-c : goal.decreases-loop-c
+decreases-loop-c l = l.chains - l.c

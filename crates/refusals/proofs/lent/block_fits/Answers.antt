@@ -1,0 +1,39 @@
+use mathlib.Core.Path.{◌≡◌, sym, ap, ◌∙◌}
+use Prim.Native.Nat.{ℕ, ◌+◌, ◌-◌, ◌≤◌}
+use native.Mathlib.Omega.{arith}
+use lib.ListN.{length, get_or}
+use Rattle.sheet.specs.Chain.{joints_of, joint_of, joint-zero, joint-more, joint-mono, joint-last}
+use Rattle.refusals.specs.Range.{every, every-none, every-turn}
+use Rattle.refusals.specs.Refusal.{value_fits, link_value_fits, block_fits}
+use borrow.Author.Rules.{rules}
+use Rattle.refusals.proofs.lent.block_fits.Goals as goal
+
+pub loop-l-init : goal.loop-l-init
+loop-l-init c = (omega arith, sym (every-none _), omega (arith, joint-zero c.args.codes.now))
+
+pub value_fits-requires : goal.value_fits-requires
+value_fits-requires c =
+    let inside : c.loop-l.j + joints_of (get_or c.args.codes.now c.loop-l.l 0) ≤ length c.args.list.now = let cs = c.args.codes.now in
+    let l = c.loop-l.l in
+    omega (arith, c.loop-l.invariant.2, joint-more cs l, joint-mono cs (l + 1) (length cs) (omega (arith, c.loop-l-test.true)), joint-last cs, c.requires) in
+    omega (arith, inside, ap joints_of c.read.ensures)
+
+pub next_joint-j-requires : goal.next_joint-j-requires
+next_joint-j-requires c =
+    let inside : c.loop-l.j + joints_of (get_or c.args.codes.now c.loop-l.l 0) ≤ length c.args.list.now = let cs = c.args.codes.now in
+    let l = c.loop-l.l in
+    omega (arith, c.loop-l.invariant.2, joint-more cs l, joint-mono cs (l + 1) (length cs) (omega (arith, c.loop-l-test.true)), joint-last cs, c.requires) in
+    (c.loop-l-test.true, omega (arith, inside, c.well_formed))
+
+pub loop-l-preserved : goal.loop-l-preserved
+unfolding link_value_fits
+loop-l-preserved c =
+    let i = c.loop-l.invariant in (
+      omega arith,
+      every-turn _ _ _ _ _ i.1 (c.value_fits.ensures ∙ ap (λ (k : ℕ). value_fits k c.args.list.now c.loop-l.j) c.read.ensures ∙ ap (value_fits _ c.args.list.now) i.2) c.both-ok.ensures,
+      omega (arith, c.next_joint-j.ensures, joint-more c.args.codes.now c.loop-l.l, i.2),
+    )
+
+pub returns : goal.returns
+unfolding block_fits
+returns c = let e : c.loop-l.l ≡ length c.args.codes.now = omega arith in c.loop-l.invariant.1 ∙ ap (every _) e

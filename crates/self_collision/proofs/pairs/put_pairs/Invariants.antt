@@ -1,0 +1,30 @@
+-- `put_pairs` meets its contract: turn after turn one chain's pairs more.
+use mathlib.Core.Path.{◌≡◌, refl, sym, ap, ◌∙◌}
+use mathlib.Core.Bool.{Bool}
+use mathlib.Core.List.{List, map}
+use Prim.Native.Nat.{ℕ, ◌+◌, ◌-◌, ◌≤◌, ◌<◌}
+use native.Mathlib.Omega.{arith}
+use lib.Ieee.{Float}
+use lib.ListN.{length, get_or, length-map}
+use Rattle.lists.specs.Splice.{splice}
+use Rattle.lists.specs.Runs.{runs, runs_none, runs-fits, splice-none, splice-turn-at}
+use Rattle.sheet.specs.Chain.{chain_start, chain-start-next, joint_of, joint-mono, joint-zero, chain_length}
+use Rattle.sheet.specs.ChainTurn.{length-here}
+use Rattle.geometry.specs.declared.pose.Pose.{Pose}
+use Rattle.manipulability.specs.View.{view_of}
+use Rattle.manipulability.specs.Jacobian.{Part, chain-part}
+use Rattle.self_collision.specs.Pairs.{pairs_of, chain_pairs, all_pairs, first_arm, chain_lengths, loss_from, pair_loss, pair_last, pair_losses, pair_lasts, CachedPairs, pair-count, map_runs, lengths-count, count-more, cached-turn, view-part, first-start, arm-fits, losses-chain, lasts-chain}
+use Rattle.self_collision.proofs.pairs.put_pairs.Given as goal
+
+-- what the pairs of chain c cost, and their last links
+abbrev losses : List ℕ → List ℕ → (ℕ → Pose) → Bool → ℕ → List Float
+losses ns cs P b c = map (pair_loss ns P b) (chain_pairs first_arm (chain_lengths ns cs) c)
+
+abbrev pub invariant-loop-c : goal.invariant-loop-c
+invariant-loop-c l =
+    let f = losses l.counts l.codes (view_of l.base l.tail l.from l.to) l.any_nan in
+    (l.c ≤ length l.counts) × (l.l ≡ chain_start l.counts l.c) × (l.joint ≡ joint_of l.codes l.l)
+    × (l.p ≡ l.at + length (runs f 0 l.c)) × (length l.out ≡ length l.initial.out) × (l.out ≡ splice l.initial.out l.at (runs f 0 l.c))
+
+abbrev pub decreases-loop-c : goal.decreases-loop-c
+decreases-loop-c l = length l.counts - l.c

@@ -1,0 +1,14 @@
+-- `numbers` meets its contract: by what its calls ensure.
+use mathlib.Core.Path.{ap, ◌∙◌}
+use borrow.Author.Tests.{not-true, not-false}
+use Rattle.lent_bytes.specs.Lent.{bytes_of_numbers}
+use Rattle.stored_answers.specs.Agree.{same_bytes}
+use Rattle.sequences.proofs.agree.numbers.Lts as lts
+use borrow.Author.Rules.{rules}
+use Rattle.sequences.proofs.agree.numbers.Goals as goal
+
+pub returns-then-not-agreed : goal.returns-then-not-agreed
+returns-then-not-agreed c = rw (not-true c.args.agreed c.if-not-agreed.true)
+
+pub returns : goal.returns
+returns c = rw (not-false c.args.agreed c.if-not-agreed.false) (c.same_numbers.ensures ∙ ap (same_bytes (bytes_of_numbers c.args.ns.now)) c.list.ensures.0)

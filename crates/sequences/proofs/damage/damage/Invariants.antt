@@ -1,0 +1,18 @@
+-- `damage` meets its contract: the first damage found is the list's.
+use Rattle.sequences.specs.Table.{last_call, lists_of}
+use Rattle.sequences.specs.Steps.{end_of, record_at}
+use Rattle.stored_answers.specs.Stored.{number_at}
+use lib.ListN.{length}
+use mathlib.Core.Path.{◌≡◌, refl, sym, ap, ◌∙◌}
+use Prim.Native.Nat.{◌+◌, ◌*◌, ◌-◌, ◌≤◌}
+use native.Mathlib.Omega.{arith}
+use borrow.Author.Tests.{lt-ltb, le-ltb, eq-eqb, ne_eqb}
+use Rattle.refusals.specs.Lowest.{first-zero}
+use Rattle.stored_answers.specs.Records.{record_by, damage_at, damage_to, damage_by, record-next, damage-more, damage-found}
+use Rattle.sequences.proofs.damage.damage.Given as goal
+
+abbrev pub invariant-loop-i : goal.invariant-loop-i
+invariant-loop-i l = (l.i ≤ l.n) × (l.at ≡ record_at l.s l.i) × (l.at ≤ 2 + 786448 * l.i) × (damage_to lists_of last_call l.s l.i ≡ 0)
+
+abbrev pub decreases-loop-i : goal.decreases-loop-i
+decreases-loop-i l = l.n - l.i

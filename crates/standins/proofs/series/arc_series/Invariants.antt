@@ -1,0 +1,15 @@
+-- `arc_series` meets its contract: what is left of the loop makes the whole of what is reached.
+use mathlib.Core.Path.{◌≡◌, refl}
+use Prim.Native.Nat.{◌-◌, ◌*◌, ◌≤◌, ◌^◌}
+use native.Mathlib.Omega.{arith}
+use lib.Dec.{le→leb}
+use lib.Ieee.{in_float, of_int, of_bits}
+use Rattle.standins.specs.Num.{◌⊗◌}
+use Rattle.standins.specs.Series.{down_from, arc_term_of, arc_series_of, down_turn, down-done}
+use Rattle.standins.proofs.series.arc_series.Given as goal
+
+abbrev pub invariant-loop-n : goal.invariant-loop-n
+invariant-loop-n l = (l.n ≤ 12) × (down_from (arc_term_of (l.r ⊗ l.r)) l.n l.s ≡ arc_series_of l.r)
+
+abbrev pub decreases-loop-n : goal.decreases-loop-n
+decreases-loop-n l = l.n

@@ -1,0 +1,12 @@
+-- `both_series` meets its contract: each series of the reduced angle goes by the one law of a loop that counts down.
+use mathlib.Core.Path.{◌≡◌, refl}
+use Prim.Native.Nat.{◌≤◌}
+use native.Mathlib.Omega.{arith}
+use Rattle.standins.specs.Series.{down_from, term_of, series_of, sine_divisor, cosine_divisor, term-turn, down-done}
+use Rattle.standins.proofs.series.both_series.Given as goal
+
+abbrev pub invariant-loop-n : goal.invariant-loop-n
+invariant-loop-n l = (l.n ≤ 16) × (down_from (term_of sine_divisor l.q) l.n l.s ≡ series_of sine_divisor l.q) × (down_from (term_of cosine_divisor l.q) l.n l.c ≡ series_of cosine_divisor l.q)
+
+abbrev pub decreases-loop-n : goal.decreases-loop-n
+decreases-loop-n l = l.n

@@ -1,0 +1,14 @@
+-- `exp_series` meets its contract: what is left of the loop makes the whole of what is reached.
+use mathlib.Core.Path.{◌≡◌, refl}
+use Prim.Native.Nat.{◌≤◌, ◌^◌}
+use native.Mathlib.Omega.{arith}
+use lib.Dec.{le→leb}
+use lib.Ieee.{in_float}
+use Rattle.standins.specs.Series.{down_from, exp_term_of, exp_series_of, down_turn, down-done}
+use Rattle.standins.proofs.series.exp_series.Given as goal
+
+abbrev pub invariant-loop-n : goal.invariant-loop-n
+invariant-loop-n l = (l.n ≤ 18) × (down_from (exp_term_of l.z) l.n l.e ≡ exp_series_of l.z)
+
+abbrev pub decreases-loop-n : goal.decreases-loop-n
+decreases-loop-n l = l.n

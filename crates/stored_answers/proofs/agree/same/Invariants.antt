@@ -1,0 +1,16 @@
+-- `same` meets its contract: it goes on while the bytes passed are the same.
+use mathlib.Core.List.{List}
+use mathlib.Core.Path.{◌≡◌, sym, ap}
+use Prim.Native.Nat.{ℕ, ◌≤◌, ◌<◌, ◌-◌}
+use native.Mathlib.Omega.{arith}
+use borrow.Author.Count.{below_none, below_more}
+use lib.ListN.{length, get_or}
+use lib.Seq.{ext_get_or}
+use Rattle.stored_answers.specs.Agree.{same_refl, same_false}
+use Rattle.stored_answers.proofs.agree.same.Given as goal
+
+abbrev pub invariant-loop-i : goal.invariant-loop-i
+invariant-loop-i l = (length l.a ≡ length l.b) × (l.i ≤ length l.a) × ((k : ℕ) → k < l.i → get_or l.a k 0 ≡ get_or l.b k 0)
+
+abbrev pub decreases-loop-i : goal.decreases-loop-i
+decreases-loop-i l = length l.a - l.i
