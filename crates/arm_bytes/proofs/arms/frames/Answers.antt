@@ -6,4 +6,4 @@ use Rattle.arm_bytes.proofs.arms.frames.Goals as goal
 pub returns : goal.returns
 returns c =
     rw (sheet-held c.decode-n.ensures, c.floats-nx.ensures.held)
-    at (c.frames.ensures.number, (c.frames.ensures.positions, c.frames.ensures.rotations))
+    at c.frames.ensures

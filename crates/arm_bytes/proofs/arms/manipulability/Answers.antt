@@ -6,4 +6,4 @@ use Rattle.arm_bytes.proofs.arms.manipulability.Goals as goal
 pub returns : goal.returns
 returns c =
     rw (sheet-held c.decode-n.ensures, c.floats-nx.ensures.held)
-    at (c.manipulability.ensures.number, c.manipulability.ensures.value)
+    at c.manipulability.ensures

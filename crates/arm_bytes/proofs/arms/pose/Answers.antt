@@ -6,4 +6,4 @@ use Rattle.arm_bytes.proofs.arms.pose.Goals as goal
 pub returns : goal.returns
 returns c =
     rw (sheet-held c.decode-n.ensures, c.decode-t.ensures, c.floats-nx.ensures.held)
-    at (c.pose.ensures.number, c.pose.ensures.ends)
+    at c.pose.ensures

@@ -6,4 +6,4 @@ use Rattle.arm_bytes.proofs.arms.reset.Goals as goal
 pub returns : goal.returns
 returns c =
     rw (sheet-held c.decode-n.ensures, c.decode-t.ensures, c.floats-nx.ensures.held)
-    at (c.reset.ensures.number, (c.reset.ensures.history, c.reset.ensures.ends))
+    at c.reset.ensures

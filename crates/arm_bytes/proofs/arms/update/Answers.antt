@@ -6,4 +6,4 @@ use Rattle.arm_bytes.proofs.arms.update.Goals as goal
 pub returns : goal.returns
 returns c =
     rw (sheet-held c.decode-n.ensures, c.floats-nh.ensures.held, c.floats-nx.ensures.held)
-    at (c.update.ensures.number, c.update.ensures.history)
+    at c.update.ensures

@@ -30,7 +30,7 @@ any_six-requires c =
 pub returns-then-not-any_six : goal.returns-then-not-any_six
 returns-then-not-any_six c =
     let passed : block_refusal c.args.codes.now c.args.block.now ≡ 0 = sym c.block_refusal-number.ensures ∙ c.if-number-ne0.false in
-    let none = sym c.any_six.ensures ∙ not-true _ c.if-not-any_six.true in record {
+    let none = sym c.any_six.ensures ∙ c.if-not-any_six.true in record {
       number = sym (passed);
       value = sym (value_taken 0 _ refl ∙ none-six _ _ _ none);
       case = sym (answer-taken nought);

@@ -41,7 +41,7 @@ pub offset_bounds-slopes-joint : goal.offset_bounds-slopes-joint
 offset_bounds-slopes-joint c = omega (arith, c, c.loop-joint.invariant, ap length c.loop-joint.invariant.1)
 
 pub bounds-slopes-joint : goal.bounds-slopes-joint
-bounds-slopes-joint c = omega (arith, (c.requires.ready, c.requires.known), c.loop-joint.invariant, ap length c.loop-joint.invariant.1)
+bounds-slopes-joint c = omega (arith, c.requires, c.loop-joint.invariant, ap length c.loop-joint.invariant.1)
 
 pub overflow_add-joint : goal.overflow_add-joint
 overflow_add-joint c = omega (arith, c.well_formed, c.loop-joint-test.true, ap length c.loop-joint.invariant.1)

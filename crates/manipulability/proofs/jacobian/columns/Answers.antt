@@ -10,28 +10,28 @@ use borrow.Author.Rules.{rules}
 use Rattle.manipulability.proofs.jacobian.columns.Goals as goal
 
 pub overflow_sub-end : goal.overflow_sub-end
-overflow_sub-end c = omega (arith, (c.requires.part, (c.requires.view, c.requires.axes_value)))
+overflow_sub-end c = omega (arith, c.requires)
 
 pub pose-last-requires : goal.pose-last-requires
-pose-last-requires c = (omega (arith, (c.requires.part, (c.requires.view, c.requires.axes_value))), c.requires.view.again)
+pose-last-requires c = (omega (arith, c.requires), c.requires.view.again)
 
 pub overflow_sub-n : goal.overflow_sub-n
-overflow_sub-n c = omega (arith, (c.requires.part, (c.requires.view, c.requires.axes_value)))
+overflow_sub-n c = omega (arith, c.requires)
 
 pub overflow_sub-n-2 : goal.overflow_sub-n-2
-overflow_sub-n-2 c = omega (arith, (c.requires.part, (c.requires.view, c.requires.axes_value)))
+overflow_sub-n-2 c = omega (arith, c.requires)
 
 pub loop-i-init : goal.loop-i-init
 loop-i-init c = (omega arith, refl, start-made _ _ _ _ c.zero.result c.args.j.now c.zero.ensures c.requires.axes_value.1)
 
 pub overflow_add-first : goal.overflow_add-first
-overflow_add-first c = omega (arith, (c.requires.part, (c.requires.view, c.requires.axes_value)), c.loop-i.invariant)
+overflow_add-first c = omega (arith, c.requires, c.loop-i.invariant)
 
 pub pose-p-requires : goal.pose-p-requires
-pose-p-requires c = (omega (arith, (c.requires.part, (c.requires.view, c.requires.axes_value)), c.loop-i.invariant, c), c.requires.view.again)
+pose-p-requires c = (omega (arith, c.requires, c.loop-i.invariant, c), c.requires.view.again)
 
 pub overflow_add-first-in-loop-i : goal.overflow_add-first-in-loop-i
-overflow_add-first-in-loop-i c = omega (arith, (c.requires.part, (c.requires.view, c.requires.axes_value)), c.loop-i.invariant, c)
+overflow_add-first-in-loop-i c = omega (arith, c.requires, c.loop-i.invariant, c)
 
 pub step-s-requires : goal.step-s-requires
 step-s-requires c =
@@ -43,12 +43,12 @@ step-s-requires c =
     let k = ap (λ (z : Filling). z.column) c.loop-i.invariant.2 in
     let n = ap length c.requires.axes_value.0 in
     let m = ap length c.requires.axes_value.1 in record {
-      link_in_bounds = omega (arith, k, n, column-room P cs f a.end i (omega (arith, (c.requires.part, (c.requires.view, c.requires.axes_value)), c.loop-i.invariant, c)));
+      link_in_bounds = omega (arith, k, n, column-room P cs f a.end i (omega (arith, c.requires, c.loop-i.invariant, c)));
       axes_in_bounds = omega (arith, n, m, c.loop-i.invariant.1, start-length (joints_in cs f a.end), axes-all cs f a.end c.requires.part.0.order);
     }
 
 pub overflow_add-i : goal.overflow_add-i
-overflow_add-i c = omega (arith, (c.requires.part, (c.requires.view, c.requires.axes_value)), c.loop-i.invariant, c)
+overflow_add-i c = omega (arith, c.requires, c.loop-i.invariant, c)
 
 pub loop-i-preserved : goal.loop-i-preserved
 loop-i-preserved c =

@@ -12,14 +12,14 @@ use Rattle.manipulability.proofs.jacobian.get_jacobian_immutable.Goals as goal
 pub slice_bounds-columns-end : goal.slice_bounds-columns-end
 slice_bounds-columns-end c =
     let front : take (length c.args.j.now / 6) c.joint_axes-all.result ≡ axes_of c.args.codes.now c.args.first (c.args.end - c.args.first) = let a = c.args in
-    let e : length a.j.now / 6 ≡ joints_in a.codes.now a.first a.end = omega (arith, (c.requires.part, (c.requires.view, c.requires.j_len))) in
+    let e : length a.j.now / 6 ≡ joints_in a.codes.now a.first a.end = omega (arith, c.requires) in
     ap (λ (k : ℕ). take k c.joint_axes-all.result) e ∙ c.joint_axes-all.ensures in
-    omega (arith, (c.requires.part, (c.requires.view, c.requires.j_len)), ap length (front), axes-all c.args.codes.now c.args.first c.args.end c.requires.part.0.order)
+    omega (arith, c.requires, ap length (front), axes-all c.args.codes.now c.args.first c.args.end c.requires.part.0.order)
 
 pub columns-requires : goal.columns-requires
 columns-requires c =
     let front : take (length c.args.j.now / 6) c.joint_axes-all.result ≡ axes_of c.args.codes.now c.args.first (c.args.end - c.args.first) = let a = c.args in
-    let e : length a.j.now / 6 ≡ joints_in a.codes.now a.first a.end = omega (arith, (c.requires.part, (c.requires.view, c.requires.j_len))) in
+    let e : length a.j.now / 6 ≡ joints_in a.codes.now a.first a.end = omega (arith, c.requires) in
     ap (λ (k : ℕ). take k c.joint_axes-all.result) e ∙ c.joint_axes-all.ensures in
     let a = c.args in record {
       part = c.requires.part;

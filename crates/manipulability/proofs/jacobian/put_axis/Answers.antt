@@ -14,19 +14,19 @@ pub returns-then-not-has_joint : goal.returns-then-not-has_joint
 returns-then-not-has_joint c =
     let a = c.args in
     let cs = a.codes.now in
-    let fixed = joint-missing (get_or cs a.link 0) (ap has_joint (sym c.read-k.ensures) ∙ sym c.has_joint.ensures ∙ not-true _ c.if-not-has_joint.true) in (
+    let fixed = joint-missing (get_or cs a.link 0) (ap has_joint (sym c.read-k.ensures) ∙ sym c.has_joint.ensures ∙ c.if-not-has_joint.true) in (
       omega (arith, joints-fixed (get_or cs a.link 0) fixed),
       sym (ap (splice a.axes.now a.joint) (piece-fixed cs a.link fixed) ∙ splice-nil a.axes.now a.joint),
     )
 
 pub bounds-axes-joint : goal.bounds-axes-joint
 bounds-axes-joint c =
-    let there : get_or c.args.codes.now c.args.link 0 ≡ 0 → ⊥ = joint-there _ (ap has_joint (sym c.read-k.ensures) ∙ sym c.has_joint.ensures ∙ not-false _ c.if-not-has_joint.false) in
+    let there : get_or c.args.codes.now c.args.link 0 ≡ 0 → ⊥ = joint-there _ (ap has_joint (sym c.read-k.ensures) ∙ sym c.has_joint.ensures ∙ c.if-not-has_joint.false) in
     omega (arith, joints-one _ (there))
 
 pub returns : goal.returns
 returns c =
-    let there : get_or c.args.codes.now c.args.link 0 ≡ 0 → ⊥ = joint-there _ (ap has_joint (sym c.read-k.ensures) ∙ sym c.has_joint.ensures ∙ not-false _ c.if-not-has_joint.false) in
+    let there : get_or c.args.codes.now c.args.link 0 ≡ 0 → ⊥ = joint-there _ (ap has_joint (sym c.read-k.ensures) ∙ sym c.has_joint.ensures ∙ c.if-not-has_joint.false) in
     let a = c.args in
     let cs = a.codes.now in
     let one = joints-one (get_or cs a.link 0) (there) in (

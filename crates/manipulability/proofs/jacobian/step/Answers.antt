@@ -14,7 +14,7 @@ bounds-axes-c c =
 pub fill_column-requires : goal.fill_column-requires
 fill_column-requires c =
     let turning : turns_at c.args.codes.now c.args.link ≡ true = sym c.turns.ensures ∙ c.if-turns.true in
-    omega (arith, (c.requires.link_in_bounds, c.requires.axes_in_bounds), turns-joint c.args.codes.now c.args.link (turning))
+    omega (arith, c.requires, turns-joint c.args.codes.now c.args.link (turning))
 
 pub returns-then-turns : goal.returns-then-turns
 unfolding step_at

@@ -14,7 +14,7 @@ slice_bounds-put_floats-end c =
 pub put_floats-requires : goal.put_floats-requires
 put_floats-requires c =
     let scratched : length (take c.args.n c.args.x.now) ≡ c.args.n = length-take-le c.args.n c.args.x.now c.requires.n_in_bounds.0 in
-    omega (arith, scratched, (c.requires.n_in_bounds, c.requires.n_in_bounds_2))
+    omega (arith, scratched, c.requires)
 
 pub slice_bounds-put_floats-end-3 : goal.slice_bounds-put_floats-end-3
 slice_bounds-put_floats-end-3 c =
@@ -24,4 +24,4 @@ slice_bounds-put_floats-end-3 c =
 pub put_floats-requires-3 : goal.put_floats-requires-3
 put_floats-requires-3 c =
     let sloped : length (take c.args.n c.args.d.now) ≡ c.args.n = length-take-le c.args.n c.args.d.now c.requires.n_in_bounds.1 in
-    omega (arith, sloped, (c.requires.n_in_bounds, c.requires.n_in_bounds_2))
+    omega (arith, sloped, c.requires)

@@ -28,7 +28,7 @@ returns-then-not-has_joint_at c =
     let G : Given = given_of ns cs T a.picks in
     let k = a.turn.link in
     let at = a.turn.here.at in
-    let z = joint-missing (get_or cs k 0) (sym c.has_joint_at.ensures ∙ not-true _ c.if-not-has_joint_at.true) in record {
+    let z = joint-missing (get_or cs k 0) (sym c.has_joint_at.ensures ∙ c.if-not-has_joint_at.true) in record {
       value = turn_is ns cs gs x a.turn _ a.frames.now c.requires.at_turn (omega (arith, again-at-fixed ns cs k z)) (omega (arith, joints-fixed (get_or cs k 0) z)) c.get-pose.ensures;
       block_after = refl;
       writes = record {
@@ -41,7 +41,7 @@ returns-then-not-has_joint_at c =
 
 pub one_joint-next-requires : goal.one_joint-next-requires
 one_joint-next-requires c =
-    let has-joint : let a = c.args in get_or a.codes.now a.turn.link 0 ≡ 0 → ⊥ = joint-there _ (sym c.has_joint_at.ensures ∙ not-false _ c.if-not-has_joint_at.false) in
+    let has-joint : let a = c.args in get_or a.codes.now a.turn.link 0 ≡ 0 → ⊥ = joint-there _ (sym c.has_joint_at.ensures ∙ c.if-not-has_joint_at.false) in
     record {
       ready = c.requires.ready;
       room = c.requires.room;
@@ -54,7 +54,7 @@ overflow_add-result c = omega (arith, c.requires.ready.sheet.links, c.requires.a
 
 pub returns : goal.returns
 returns c =
-    let has-joint : let a = c.args in get_or a.codes.now a.turn.link 0 ≡ 0 → ⊥ = joint-there _ (sym c.has_joint_at.ensures ∙ not-false _ c.if-not-has_joint_at.false) in
+    let has-joint : let a = c.args in get_or a.codes.now a.turn.link 0 ≡ 0 → ⊥ = joint-there _ (sym c.has_joint_at.ensures ∙ c.if-not-has_joint_at.false) in
     let a = c.args in
     let cs = a.codes.now in
     let o = c.one_joint-next in record {

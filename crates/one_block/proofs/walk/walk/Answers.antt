@@ -14,7 +14,7 @@ pub loop-link-init : goal.loop-link-init
 loop-link-init c =
     let a = c.args in (
       omega arith,
-      omega (arith, (c.requires.sheet, (c.requires.from_le_to, (c.requires.meets, c.requires.room)))),
+      omega (arith, c.requires),
       omega arith,
       c.requires.meets,
       splice-start (joint_entry a.raised) 1 (joint-entry a.raised) a.joints.now a.here.at a.from,
@@ -36,7 +36,7 @@ walk_link-p-requires c =
     }
 
 pub overflow_add-link : goal.overflow_add-link
-overflow_add-link c = omega (arith, c.loop-link-test.true, (c.requires.sheet, (c.requires.from_le_to, (c.requires.meets, c.requires.room))))
+overflow_add-link c = omega (arith, c.loop-link-test.true, c.requires)
 
 pub loop-link-smaller : goal.loop-link-smaller
 loop-link-smaller c = omega (arith, c.loop-link-test.true)

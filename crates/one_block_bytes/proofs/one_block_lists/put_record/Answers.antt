@@ -15,7 +15,7 @@ slice_bounds-put_numbers-end c =
 pub put_numbers-requires : goal.put_numbers-requires
 put_numbers-requires c =
     let jointed : length (take c.args.n c.args.joints.now) ≡ c.args.n = length-take-le c.args.n c.args.joints.now c.requires.n_in_bounds.0 in
-    omega (arith, jointed, (c.requires.n_in_bounds, c.requires.n_in_bounds_2))
+    omega (arith, jointed, c.requires)
 
 pub slice_bounds-put_numbers-end-2 : goal.slice_bounds-put_numbers-end-2
 slice_bounds-put_numbers-end-2 c =
@@ -25,7 +25,7 @@ slice_bounds-put_numbers-end-2 c =
 pub put_numbers-requires-2 : goal.put_numbers-requires-2
 put_numbers-requires-2 c =
     let linked : length (take c.args.n c.args.links.now) ≡ c.args.n = length-take-le c.args.n c.args.links.now c.requires.n_in_bounds.1 in
-    omega (arith, linked, (c.requires.n_in_bounds, c.requires.n_in_bounds_2))
+    omega (arith, linked, c.requires)
 
 pub slice_bounds-put_floats-end : goal.slice_bounds-put_floats-end
 slice_bounds-put_floats-end c =
@@ -35,7 +35,7 @@ slice_bounds-put_floats-end c =
 pub put_floats-requires : goal.put_floats-requires
 put_floats-requires c =
     let posed : length (take (7 * c.args.n) c.args.poses.now) ≡ 7 * c.args.n = length-take-le (7 * c.args.n) c.args.poses.now c.requires.n_in_bounds.2 in
-    omega (arith, posed, (c.requires.n_in_bounds, c.requires.n_in_bounds_2))
+    omega (arith, posed, c.requires)
 
 pub returns : goal.returns
 returns c =

@@ -7,12 +7,12 @@ use Rattle.refusals.proofs.lent.goal_fits.Goals as goal
 
 pub returns-then-not-all_within : goal.returns-then-not-all_within
 unfolding goal_fits
-returns-then-not-all_within c = rw (sym c.all_within.ensures ∙ not-true _ c.if-not-all_within.true)
+returns-then-not-all_within c = rw (sym c.all_within.ensures ∙ c.if-not-all_within.true)
 
 pub returns-then-not-all_within-2 : goal.returns-then-not-all_within-2
 unfolding goal_fits
-returns-then-not-all_within-2 c = rw (sym c.all_within.ensures ∙ not-false _ c.if-not-all_within.false, sym c.all_within-2.ensures ∙ not-true _ c.if-not-all_within-2.true)
+returns-then-not-all_within-2 c = rw (sym c.all_within.ensures ∙ c.if-not-all_within.false, sym c.all_within-2.ensures ∙ c.if-not-all_within-2.true)
 
 pub returns : goal.returns
 unfolding goal_fits
-returns c = rw (sym c.all_within.ensures ∙ not-false _ c.if-not-all_within.false, sym c.all_within-2.ensures ∙ not-false _ c.if-not-all_within-2.false) c.unit.ensures
+returns c = rw (sym c.all_within.ensures ∙ c.if-not-all_within.false, sym c.all_within-2.ensures ∙ c.if-not-all_within-2.false) c.unit.ensures

@@ -11,16 +11,16 @@ use Rattle.refusals.proofs.lent.value_fits.Goals as goal
 
 pub returns-then-not-has_joint : goal.returns-then-not-has_joint
 unfolding value_fits
-returns-then-not-has_joint c = rw (sym c.has_joint.ensures ∙ not-true _ c.if-not-has_joint.true)
+returns-then-not-has_joint c = rw (sym c.has_joint.ensures ∙ c.if-not-has_joint.true)
 
 pub bounds-list-at : goal.bounds-list-at
 bounds-list-at c =
-    let there : has_joint c.args.code ≡ true = sym c.has_joint.ensures ∙ not-false _ c.if-not-has_joint.false in
+    let there : has_joint c.args.code ≡ true = sym c.has_joint.ensures ∙ c.if-not-has_joint.false in
     let code = c.args.code in
     omega (arith, joints-one code (joint-there code (there)))
 
 pub returns : goal.returns
 unfolding value_fits
 returns c =
-    let there : has_joint c.args.code ≡ true = sym c.has_joint.ensures ∙ not-false _ c.if-not-has_joint.false in
+    let there : has_joint c.args.code ≡ true = sym c.has_joint.ensures ∙ c.if-not-has_joint.false in
     rw (there) c.joint_fits.ensures

@@ -7,12 +7,12 @@ use Rattle.refusals.proofs.load.ranged.Goals as goal
 
 pub returns-then-not-is_within : goal.returns-then-not-is_within
 unfolding ranged_pair
-returns-then-not-is_within c = rw (sym c.is_within.ensures ∙ not-true _ c.if-not-is_within.true)
+returns-then-not-is_within c = rw (sym c.is_within.ensures ∙ c.if-not-is_within.true)
 
 pub returns-then-not-is_within-2 : goal.returns-then-not-is_within-2
 unfolding ranged_pair
-returns-then-not-is_within-2 c = rw (sym c.is_within.ensures ∙ not-false _ c.if-not-is_within.false, sym c.is_within-2.ensures ∙ not-true _ c.if-not-is_within-2.true)
+returns-then-not-is_within-2 c = rw (sym c.is_within.ensures ∙ c.if-not-is_within.false, sym c.is_within-2.ensures ∙ c.if-not-is_within-2.true)
 
 pub returns : goal.returns
 unfolding ranged_pair
-returns c = rw (sym c.is_within.ensures ∙ not-false _ c.if-not-is_within.false, sym c.is_within-2.ensures ∙ not-false _ c.if-not-is_within-2.false)
+returns c = rw (sym c.is_within.ensures ∙ c.if-not-is_within.false, sym c.is_within-2.ensures ∙ c.if-not-is_within-2.false)

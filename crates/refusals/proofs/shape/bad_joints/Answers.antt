@@ -59,7 +59,7 @@ unfolding bad_joints
 returns-then-not-two c =
     let last : c.loop-c.c ≡ length c.args.counts.now = omega arith in
     let all_two : every (two_joints c.args.counts.now c.args.codes.now) (length c.args.counts.now) ≡ c.loop-c.two = sym (c.loop-c.invariant.1 ∙ ap (every (two_joints c.args.counts.now c.args.codes.now)) (last)) in
-    rw (all_two ∙ not-true _ c.if-not-two.true)
+    rw (all_two ∙ c.if-not-two.true)
 
 pub returns-then-joint-gt16 : goal.returns-then-joint-gt16
 unfolding bad_joints
@@ -69,7 +69,7 @@ returns-then-joint-gt16 c =
     let all-joints : c.loop-c.joint ≡ joints c.args.codes.now = let ns = c.args.counts.now in
     let cs = c.args.codes.now in
     c.loop-c.invariant.4 ∙ ap (λ (k : ℕ). joint_of cs (chain_start ns k)) (last) ∙ ap (joint_of cs) (chain-start-total ns ∙ c.requires.1) ∙ joint-last cs in
-    rw (all_two ∙ not-false _ c.if-not-two.false, lt-ltb 16 _ (rw (all-joints) at c.if-joint-gt16.true))
+    rw (all_two ∙ c.if-not-two.false, lt-ltb 16 _ (rw (all-joints) at c.if-joint-gt16.true))
 
 pub returns : goal.returns
 unfolding bad_joints
@@ -80,4 +80,4 @@ returns c =
     let all-joints : c.loop-c.joint ≡ joints c.args.codes.now = let ns = c.args.counts.now in
     let cs = c.args.codes.now in
     c.loop-c.invariant.4 ∙ ap (λ (k : ℕ). joint_of cs (chain_start ns k)) (last) ∙ ap (joint_of cs) (chain-start-total ns ∙ c.requires.1) ∙ joint-last cs in
-    rw (all_two ∙ not-false _ c.if-not-two.false, le-ltb 16 _ (rw (all-joints) at c.if-joint-gt16.false)) (ap not (sym (all-later)))
+    rw (all_two ∙ c.if-not-two.false, le-ltb 16 _ (rw (all-joints) at c.if-joint-gt16.false)) (ap not (sym (all-later)))

@@ -27,10 +27,10 @@ returns-then-sizes-chains c = rw (ne_eqb _ 0 c.if-sizes-eq0.false, ne_eqb _ _ c.
 
 pub returns-then-not-is_between : goal.returns-then-not-is_between
 unfolding bad_sizes
-returns-then-not-is_between c = rw (ne_eqb _ 0 c.if-sizes-eq0.false, eq-eqb _ _ c.if-sizes-chains.false, sym c.is_between.ensures ∙ not-true _ c.if-not-is_between.true)
+returns-then-not-is_between c = rw (ne_eqb _ 0 c.if-sizes-eq0.false, eq-eqb _ _ c.if-sizes-chains.false, sym c.is_between.ensures ∙ c.if-not-is_between.true)
 
 pub returns : goal.returns
 unfolding bad_sizes
 returns c =
-    rw (ne_eqb _ 0 c.if-sizes-eq0.false, eq-eqb _ _ c.if-sizes-chains.false, sym c.is_between.ensures ∙ not-false _ c.if-not-is_between.false)
+    rw (ne_eqb _ 0 c.if-sizes-eq0.false, eq-eqb _ _ c.if-sizes-chains.false, sym c.is_between.ensures ∙ c.if-not-is_between.false)
     (ap not (c.links_fit.ensures ∙ ap (λ (ns : List ℕ). every (links_fit ns) (length ns)) c.links.ensures))

@@ -10,13 +10,13 @@ use borrow.Author.Rules.{rules}
 use Rattle.self_collision.proofs.pairs.put_row.Goals as goal
 
 pub overflow_add-k : goal.overflow_add-k
-overflow_add-k c = omega (arith, (c.requires.view, c.requires.cached_pairs))
+overflow_add-k c = omega (arith, c.requires)
 
 pub loop-k-init : goal.loop-k-init
 loop-k-init c =
     let a = c.args in
     let loss = loss_from (view_of a.base.now a.tail.now a.from a.to) a.first a.any_nan in
-    (omega arith, omega (arith, (c.requires.view, c.requires.cached_pairs)), omega arith, refl, splice-start (pair_at loss a.j) 1 (λ k. refl) a.out.now a.at (a.j + 2))
+    (omega arith, omega (arith, c.requires), omega arith, refl, splice-start (pair_at loss a.j) 1 (λ k. refl) a.out.now a.at (a.j + 2))
 
 pub put_pair-requires : goal.put_pair-requires
 unfolding pairs_from

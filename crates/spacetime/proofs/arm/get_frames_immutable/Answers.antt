@@ -6,7 +6,7 @@ use Rattle.spacetime.proofs.arm.get_frames_immutable.Goals as goal
 
 pub walk-requires : goal.walk-requires
 walk-requires c =
-    let turned = turns-turned _ _ _ _ (omega (arith, (c.requires.sheet, c.requires.codes_in_bounds))) c.put_turns.auto.turns c.put_turns.ensures in record {
+    let turned = turns-turned _ _ _ _ (omega (arith, c.requires)) c.put_turns.auto.turns c.put_turns.ensures in record {
       sheet = c.requires.sheet;
       rotated = turned-rotated _ _ _ _ _ turned _ c.walk_rotations.auto.turns c.walk_rotations.ensures;
       codes_in_bounds = c.requires.codes_in_bounds;

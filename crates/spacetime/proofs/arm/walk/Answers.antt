@@ -21,22 +21,22 @@ after_known-p-requires c =
     let x = c.args.block.now in
     let k = c.loop-at.at in
     let made = pose-made ns cs gs x k c.loop-at.joint c.loop-at.p c.start.result (after_link cs gs x c.start.result k c.loop-at.joint) c.loop-at.invariant.2 c.loop-at.invariant.1 c.start.ensures refl in record {
-      at_in_bounds = (omega (arith, (c.requires.sheet, (c.requires.rotated, c.requires.codes_in_bounds))), omega (arith, (c.requires.sheet, (c.requires.rotated, c.requires.codes_in_bounds))), omega (arith, c.requires.rotated.room, c));
-      at_in_bounds_2 = omega (arith, (c.requires.sheet, (c.requires.rotated, c.requires.codes_in_bounds)), joint-more cs k, joint-mono cs (k + 1) (length cs) (omega (arith, c)), joint-last cs);
+      at_in_bounds = (omega (arith, c.requires), omega (arith, c.requires), omega (arith, c.requires.rotated.room, c));
+      at_in_bounds_2 = omega (arith, c.requires, joint-more cs k, joint-mono cs (k + 1) (length cs) (omega (arith, c)), joint-last cs);
       at_value = c.requires.rotated.each k (omega (arith, c)) ∙ ap (λ (p : Pose). p.rotation) (sym made);
     }
 
 pub overflow_mul-at : goal.overflow_mul-at
-overflow_mul-at c = omega (arith, (c.requires.sheet, (c.requires.rotated, c.requires.codes_in_bounds)), c.loop-at.invariant)
+overflow_mul-at c = omega (arith, c.requires, c.loop-at.invariant)
 
 pub put-requires : goal.put-requires
-put-requires c = omega (arith, (c.requires.sheet, (c.requires.rotated, c.requires.codes_in_bounds)), c.loop-at.invariant, c)
+put-requires c = omega (arith, c.requires, c.loop-at.invariant, c)
 
 pub next_joint-joint-requires : goal.next_joint-joint-requires
-next_joint-joint-requires c = (omega (arith, c), omega (arith, (c.requires.sheet, (c.requires.rotated, c.requires.codes_in_bounds)), c.loop-at.invariant, joint-le c.args.codes.now c.loop-at.at))
+next_joint-joint-requires c = (omega (arith, c), omega (arith, c.requires, c.loop-at.invariant, joint-le c.args.codes.now c.loop-at.at))
 
 pub overflow_add-at : goal.overflow_add-at
-overflow_add-at c = omega (arith, (c.requires.sheet, (c.requires.rotated, c.requires.codes_in_bounds)), c.loop-at.invariant, c)
+overflow_add-at c = omega (arith, c.requires, c.loop-at.invariant, c)
 
 pub loop-at-preserved : goal.loop-at-preserved
 loop-at-preserved c =
@@ -52,7 +52,7 @@ loop-at-preserved c =
       c.next_joint-joint.ensures ∙ ap (λ (j : ℕ). j + joints_of (get_or cs k 0)) c.loop-at.invariant.1 ∙ sym (joint-more cs k),
       next-met ns cs gs x k c.after_known-p.result made,
       c.put.auto.l ∙ c.loop-at.invariant.3,
-      splice-turn-at (poses ns cs gs x) c.args.out.now c.loop-at.out _ 0 (7 * k) k c.loop-at.invariant.4 (omega arith) (omega (arith, (c.requires.sheet, (c.requires.rotated, c.requires.codes_in_bounds)), c.loop-at.invariant, c))
+      splice-turn-at (poses ns cs gs x) c.args.out.now c.loop-at.out _ 0 (7 * k) k c.loop-at.invariant.4 (omega arith) (omega (arith, c.requires, c.loop-at.invariant, c))
           (c.put.ensures ∙ ap (splice c.loop-at.out (7 * k)) (flat-made ns cs gs x k c.after_known-p.result made)),
     )
 

@@ -29,28 +29,28 @@ pub overflow_cast-from : goal.overflow_cast-from
 overflow_cast-from c = omega (arith, c.type_inv.counts c.loop-c.c)
 
 pub overflow_add-from : goal.overflow_add-from
-overflow_add-from c = omega (arith, (c.requires.chains, c.requires.counts_in_bounds), c.loop-c.invariant, c, c.requires.chains.0.some c.loop-c.c (omega (arith, c)), chain-within c.args.counts.now c.loop-c.c (omega (arith, c)))
+overflow_add-from c = omega (arith, c.requires, c.loop-c.invariant, c, c.requires.chains.0.some c.loop-c.c (omega (arith, c)), chain-within c.args.counts.now c.loop-c.c (omega (arith, c)))
 
 pub overflow_sub-from : goal.overflow_sub-from
-overflow_sub-from c = omega (arith, (c.requires.chains, c.requires.counts_in_bounds), c.loop-c.invariant, c, c.requires.chains.0.some c.loop-c.c (omega (arith, c)), chain-within c.args.counts.now c.loop-c.c (omega (arith, c)))
+overflow_sub-from c = omega (arith, c.requires, c.loop-c.invariant, c, c.requires.chains.0.some c.loop-c.c (omega (arith, c)), chain-within c.args.counts.now c.loop-c.c (omega (arith, c)))
 
 pub overflow_mul-from : goal.overflow_mul-from
-overflow_mul-from c = omega (arith, (c.requires.chains, c.requires.counts_in_bounds), c.loop-c.invariant, c, c.requires.chains.0.some c.loop-c.c (omega (arith, c)), chain-within c.args.counts.now c.loop-c.c (omega (arith, c)))
+overflow_mul-from c = omega (arith, c.requires, c.loop-c.invariant, c, c.requires.chains.0.some c.loop-c.c (omega (arith, c)), chain-within c.args.counts.now c.loop-c.c (omega (arith, c)))
 
 pub get-last-requires : goal.get-last-requires
-get-last-requires c = omega (arith, (c.requires.chains, c.requires.counts_in_bounds), c.loop-c.invariant, c, c.requires.chains.0.some c.loop-c.c (omega (arith, c)), chain-within c.args.counts.now c.loop-c.c (omega (arith, c)))
+get-last-requires c = omega (arith, c.requires, c.loop-c.invariant, c, c.requires.chains.0.some c.loop-c.c (omega (arith, c)), chain-within c.args.counts.now c.loop-c.c (omega (arith, c)))
 
 pub overflow_mul-c : goal.overflow_mul-c
-overflow_mul-c c = omega (arith, (c.requires.chains, c.requires.counts_in_bounds), c)
+overflow_mul-c c = omega (arith, c.requires, c)
 
 pub tip-requires : goal.tip-requires
-tip-requires c = omega (arith, (c.requires.chains, c.requires.counts_in_bounds), c)
+tip-requires c = omega (arith, c.requires, c)
 
 pub put-requires : goal.put-requires
-put-requires c = omega (arith, (c.requires.chains, c.requires.counts_in_bounds), c.loop-c.invariant, c, c.requires.chains.0.some c.loop-c.c (omega (arith, c)), chain-within c.args.counts.now c.loop-c.c (omega (arith, c)))
+put-requires c = omega (arith, c.requires, c.loop-c.invariant, c, c.requires.chains.0.some c.loop-c.c (omega (arith, c)), chain-within c.args.counts.now c.loop-c.c (omega (arith, c)))
 
 pub overflow_add-c : goal.overflow_add-c
-overflow_add-c c = omega (arith, (c.requires.chains, c.requires.counts_in_bounds), c.loop-c.invariant, c, c.requires.chains.0.some c.loop-c.c (omega (arith, c)), chain-within c.args.counts.now c.loop-c.c (omega (arith, c)))
+overflow_add-c c = omega (arith, c.requires, c.loop-c.invariant, c, c.requires.chains.0.some c.loop-c.c (omega (arith, c)), chain-within c.args.counts.now c.loop-c.c (omega (arith, c)))
 
 pub loop-c-smaller : goal.loop-c-smaller
 loop-c-smaller c = omega (arith, c)
@@ -66,7 +66,7 @@ loop-c-preserved c =
       omega (arith, c),
       ap (λ (m : ℕ). m + get_or ns k 0) c.loop-c.invariant.1 ∙ sym (chain-start-next ns k),
       c.put.auto.l ∙ c.loop-c.invariant.2,
-      splice-turn-at f c.args.out.now c.loop-c.out _ 0 (7 * k) k c.loop-c.invariant.3 (omega arith) (omega (arith, (c.requires.chains, c.requires.counts_in_bounds), c))
+      splice-turn-at f c.args.out.now c.loop-c.out _ 0 (7 * k) k c.loop-c.invariant.3 (omega arith) (omega (arith, c.requires, c))
           (c.put.ensures
           ∙ ap (λ (p : Pose). splice c.loop-c.out (7 * k) (flat p)) (c.tip.ensures ∙ ap (tip_of ts k) c.get-last.ensures)
           ∙ made ns ts r c.loop-c.out (7 * k) k c.loop-c.from c.loop-c.invariant.1),

@@ -27,22 +27,22 @@ pub overflow_cast-n : goal.overflow_cast-n
 overflow_cast-n c = omega (arith, c.type_inv.counts c.loop-c.c)
 
 pub overflow_mul-c : goal.overflow_mul-c
-overflow_mul-c c = omega (arith, (c.requires.chains, c.requires.counts_in_bounds), c.loop-c.invariant, c, chain-within c.args.counts.now c.loop-c.c (omega (arith, c)))
+overflow_mul-c c = omega (arith, c.requires, c.loop-c.invariant, c, chain-within c.args.counts.now c.loop-c.c (omega (arith, c)))
 
 pub overflow_add-from : goal.overflow_add-from
-overflow_add-from c = omega (arith, (c.requires.chains, c.requires.counts_in_bounds), c.loop-c.invariant, c, chain-within c.args.counts.now c.loop-c.c (omega (arith, c)))
+overflow_add-from c = omega (arith, c.requires, c.loop-c.invariant, c, chain-within c.args.counts.now c.loop-c.c (omega (arith, c)))
 
 pub overflow_mul-from : goal.overflow_mul-from
-overflow_mul-from c = omega (arith, (c.requires.chains, c.requires.counts_in_bounds), c.loop-c.invariant, c, chain-within c.args.counts.now c.loop-c.c (omega (arith, c)))
+overflow_mul-from c = omega (arith, c.requires, c.loop-c.invariant, c, chain-within c.args.counts.now c.loop-c.c (omega (arith, c)))
 
 pub chain_rotations-requires : goal.chain_rotations-requires
-chain_rotations-requires c = (c.requires.chains.some c.loop-c.c (omega (arith, c)), omega (arith, (c.requires.chains, c.requires.counts_in_bounds), c.loop-c.invariant, c, chain-within c.args.counts.now c.loop-c.c (omega (arith, c))), omega (arith, (c.requires.chains, c.requires.counts_in_bounds), c.loop-c.invariant, c, chain-within c.args.counts.now c.loop-c.c (omega (arith, c)), chain-start-mono c.args.counts.now (c.loop-c.c + 1) (length c.args.counts.now) (omega (arith, c)), chain-start-next c.args.counts.now c.loop-c.c, chain-start-total c.args.counts.now))
+chain_rotations-requires c = (c.requires.chains.some c.loop-c.c (omega (arith, c)), omega (arith, c.requires, c.loop-c.invariant, c, chain-within c.args.counts.now c.loop-c.c (omega (arith, c))), omega (arith, c.requires, c.loop-c.invariant, c, chain-within c.args.counts.now c.loop-c.c (omega (arith, c)), chain-start-mono c.args.counts.now (c.loop-c.c + 1) (length c.args.counts.now) (omega (arith, c)), chain-start-next c.args.counts.now c.loop-c.c, chain-start-total c.args.counts.now))
 
 pub overflow_add-from-in-loop-c : goal.overflow_add-from-in-loop-c
-overflow_add-from-in-loop-c c = omega (arith, (c.requires.chains, c.requires.counts_in_bounds), c.loop-c.invariant, c, chain-within c.args.counts.now c.loop-c.c (omega (arith, c)))
+overflow_add-from-in-loop-c c = omega (arith, c.requires, c.loop-c.invariant, c, chain-within c.args.counts.now c.loop-c.c (omega (arith, c)))
 
 pub overflow_add-c : goal.overflow_add-c
-overflow_add-c c = omega (arith, (c.requires.chains, c.requires.counts_in_bounds), c.loop-c.invariant, c, chain-within c.args.counts.now c.loop-c.c (omega (arith, c)))
+overflow_add-c c = omega (arith, c.requires, c.loop-c.invariant, c, chain-within c.args.counts.now c.loop-c.c (omega (arith, c)))
 
 pub loop-c-smaller : goal.loop-c-smaller
 loop-c-smaller c = omega (arith, c)
@@ -59,7 +59,7 @@ loop-c-preserved c =
       ap (λ (m : ℕ). m + get_or ns k 0) c.loop-c.invariant.1 ∙ sym (chain-start-next ns k),
       c.chain_rotations.auto.out ∙ c.loop-c.invariant.2,
       splice-turn-at (chain_rotations ns P) c.args.out.now c.loop-c.out _ 0 (4 * (c.loop-c.from + 2 * k)) k c.loop-c.invariant.3
-          (omega (arith, c.loop-c.invariant.1)) (omega (arith, (c.requires.chains, c.requires.counts_in_bounds), chain-within ns k (omega (arith, c)))) piece,
+          (omega (arith, c.loop-c.invariant.1)) (omega (arith, c.requires, chain-within ns k (omega (arith, c)))) piece,
     )
 
 pub shape_of-out : goal.shape_of-out

@@ -12,7 +12,7 @@ use Rattle.spacetime.proofs.tool.tip.Goals as goal
 
 pub returns-then-not-has_tool : goal.returns-then-not-has_tool
 unfolding tip_of
-returns-then-not-has_tool c = rw (sym c.has_tool.ensures ∙ not-true _ c.if-not-has_tool.true)
+returns-then-not-has_tool c = rw (sym c.has_tool.ensures ∙ c.if-not-has_tool.true)
 
 pub link-requires : goal.link-requires
 unfolding joint_turn
@@ -22,5 +22,5 @@ pub returns : goal.returns
 unfolding tip_of
 returns c =
     let p = c.args.p in
-    rw (sym c.has_tool.ensures ∙ not-false _ c.if-not-has_tool.false)
+    rw (sym c.has_tool.ensures ∙ c.if-not-has_tool.false)
     (c.link.ensures ∙ ap₂ (λ (d : Vec3) (o : Quat). link_of Fixed d o nought p) c.get_vec-d.ensures c.get_quat-o.ensures)

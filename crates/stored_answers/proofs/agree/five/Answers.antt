@@ -10,19 +10,19 @@ pub returns-then-not-three : goal.returns-then-not-three
 returns-then-not-three c =
     let a = c.args in
     sym (agrees-not _ _ _ a.k (a.a.now ∷ a.b.now ∷ a.c.now ∷ a.d.now ∷ []) a.e.now
-    (agrees-not _ _ _ a.k (a.a.now ∷ a.b.now ∷ a.c.now ∷ []) a.d.now (sym c.three.ensures ∙ not-true _ c.if-not-three.true)))
+    (agrees-not _ _ _ a.k (a.a.now ∷ a.b.now ∷ a.c.now ∷ []) a.d.now (sym c.three.ensures ∙ c.if-not-three.true)))
 
 pub returns-then-not-same : goal.returns-then-not-same
 returns-then-not-same c =
     let a = c.args in
-    let d = agrees-next _ _ _ a.k (a.a.now ∷ a.b.now ∷ a.c.now ∷ []) a.d.now (sym c.three.ensures ∙ not-false _ c.if-not-three.false)
+    let d = agrees-next _ _ _ a.k (a.a.now ∷ a.b.now ∷ a.c.now ∷ []) a.d.now (sym c.three.ensures ∙ c.if-not-three.false)
     ∙ sym (c.same.ensures ∙ ap (same_bytes a.d.now) c.list.ensures.0) in
-    sym (agrees-not _ _ _ a.k (a.a.now ∷ a.b.now ∷ a.c.now ∷ a.d.now ∷ []) a.e.now (d ∙ not-true _ c.if-not-same.true))
+    sym (agrees-not _ _ _ a.k (a.a.now ∷ a.b.now ∷ a.c.now ∷ a.d.now ∷ []) a.e.now (d ∙ c.if-not-same.true))
 
 pub returns : goal.returns
 returns c =
     let a = c.args in
-    let d = agrees-next _ _ _ a.k (a.a.now ∷ a.b.now ∷ a.c.now ∷ []) a.d.now (sym c.three.ensures ∙ not-false _ c.if-not-three.false)
+    let d = agrees-next _ _ _ a.k (a.a.now ∷ a.b.now ∷ a.c.now ∷ []) a.d.now (sym c.three.ensures ∙ c.if-not-three.false)
     ∙ sym (c.same.ensures ∙ ap (same_bytes a.d.now) c.list.ensures.0) in
     c.same-2.ensures ∙ ap (same_bytes a.e.now) c.list-2.ensures.0
-    ∙ sym (agrees-next _ _ _ a.k (a.a.now ∷ a.b.now ∷ a.c.now ∷ a.d.now ∷ []) a.e.now (d ∙ not-false _ c.if-not-same.false))
+    ∙ sym (agrees-next _ _ _ a.k (a.a.now ∷ a.b.now ∷ a.c.now ∷ a.d.now ∷ []) a.e.now (d ∙ c.if-not-same.false))

@@ -12,7 +12,7 @@ pub returns-then-not-none : goal.returns-then-not-none
 returns-then-not-none c =
     let a = c.args in
     let e = c.none.ensures ∙ agrees-none _ _ _ 0 ∙ sym (agrees-none _ _ _ a.k) in
-    sym (agrees-not _ _ _ a.k [] a.a.now (sym e ∙ not-true _ c.if-not-none.true))
+    sym (agrees-not _ _ _ a.k [] a.a.now (sym e ∙ c.if-not-none.true))
 
 pub returns : goal.returns
 returns c =
@@ -20,4 +20,4 @@ returns c =
     let e = c.none.ensures ∙ agrees-none _ _ _ 0 ∙ sym (agrees-none _ _ _ a.k) in
     let z : a.k + 0 ≡ a.k = omega arith in
     c.same.ensures ∙ ap (same_bytes a.a.now) c.list.ensures.0
-    ∙ sym (rw z at (agrees-next _ _ _ a.k [] a.a.now (sym e ∙ not-false _ c.if-not-none.false)))
+    ∙ sym (rw z at (agrees-next _ _ _ a.k [] a.a.now (sym e ∙ c.if-not-none.false)))

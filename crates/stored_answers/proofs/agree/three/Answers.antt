@@ -9,10 +9,10 @@ use Rattle.stored_answers.proofs.agree.three.Goals as goal
 pub returns-then-not-two : goal.returns-then-not-two
 returns-then-not-two c =
     let a = c.args in
-    sym (agrees-not _ _ _ a.k (a.a.now ∷ a.b.now ∷ []) a.c.now (sym c.two.ensures ∙ not-true _ c.if-not-two.true))
+    sym (agrees-not _ _ _ a.k (a.a.now ∷ a.b.now ∷ []) a.c.now (sym c.two.ensures ∙ c.if-not-two.true))
 
 pub returns : goal.returns
 returns c =
     let a = c.args in
     c.same.ensures ∙ ap (same_bytes a.c.now) c.list.ensures.0
-    ∙ sym (agrees-next _ _ _ a.k (a.a.now ∷ a.b.now ∷ []) a.c.now (sym c.two.ensures ∙ not-false _ c.if-not-two.false))
+    ∙ sym (agrees-next _ _ _ a.k (a.a.now ∷ a.b.now ∷ []) a.c.now (sym c.two.ensures ∙ c.if-not-two.false))

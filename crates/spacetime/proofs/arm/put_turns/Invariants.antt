@@ -1,0 +1,16 @@
+-- `put_turns` meets its contract: turn after turn one joint more.
+use mathlib.Core.Path.{◌≡◌, refl, sym, ap, ◌∙◌}
+use Prim.Native.Nat.{ℕ, ◌+◌, ◌-◌, ◌≤◌}
+use native.Mathlib.Omega.{arith}
+use lib.ListN.{length, get_or}
+use Rattle.geometry.specs.declared.quaternion.Quat.{Quat}
+use Rattle.lists.specs.Splice.{splice}
+use Rattle.sheet.specs.Chain.{joints_of, joint_of, joint-zero, joint-more, joint-mono, joint-last, joint-le}
+use Rattle.spacetime.specs.Turns.{quats_of, quats-none, quats-turn, turn_at, turns_of}
+use Rattle.spacetime.proofs.arm.put_turns.Given as goal
+
+abbrev pub invariant-loop-at : goal.invariant-loop-at
+invariant-loop-at v = (v.at ≤ length v.codes) × (v.joint ≡ joint_of v.codes v.at) × (length v.turns ≡ length v.initial.turns) × (v.turns ≡ splice v.initial.turns 0 (quats_of (λ l. turn_at v.codes v.block l (joint_of v.codes l)) v.at))
+
+abbrev pub decreases-loop-at : goal.decreases-loop-at
+decreases-loop-at l = length l.codes - l.at
