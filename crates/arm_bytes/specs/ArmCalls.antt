@@ -13,7 +13,7 @@ use Rattle.calls.specs.Arms.{if_taken}
 use Rattle.calls.specs.Frames.{frames_refusal, pose_refusal}
 use Rattle.sizing.specs.Sizing.{sheet_plan, plan_list}
 use Rattle.lent_bytes.specs.Lent.{bytes_of, bytes_of_numbers}
-use Rattle.lists.specs.Lent.{lent, LentList}
+use Rattle.lists.specs.Lent.{LentOutput, output_lent}
 use Rattle.lent_bytes.specs.SheetLists.{SheetLists}
 
 -- ---- the numbers: those of loading, 1 to 6, then the call's own; 0 is accepted. Rooms are in floats, that of sizing in u16s.
@@ -92,9 +92,9 @@ unfoldable pub manipulability_value : SheetLists → List Float → List Float
 manipulability_value s x = manipulability_of (poses_on s x) (links_of s.sizes) s.codes ∷ []
 
 -- an output after a call of number r: the bytes at its front, its tail kept; as it was where the call is refused
-abbrev pub output_of : {X : Type 0} → ℕ → LentList ℕ X → List Float → List ℕ
-output_of r out answer = if_taken r (lent out) (splice (lent out) 0 (bytes_of answer))
+abbrev pub output_of : ℕ → LentOutput ℕ → List Float → List ℕ
+output_of r out answer = if_taken r (output_lent out) (splice (output_lent out) 0 (bytes_of answer))
 
 -- the same of an output of u16s
-abbrev pub numbers_output_of : {X : Type 0} → ℕ → LentList ℕ X → List ℕ → List ℕ
-numbers_output_of r out answer = if_taken r (lent out) (splice (lent out) 0 (bytes_of_numbers answer))
+abbrev pub numbers_output_of : ℕ → LentOutput ℕ → List ℕ → List ℕ
+numbers_output_of r out answer = if_taken r (output_lent out) (splice (output_lent out) 0 (bytes_of_numbers answer))

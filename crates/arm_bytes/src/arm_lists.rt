@@ -38,8 +38,8 @@ fn put_plan(p: Plan, out: &mut [u8]) -> u16
 }
 
 pub fn sizing(sizes: &[u16], codes: &[u16], floats: &[f64], picks: Picks, plan: &mut [u8]) -> u16
-    ensures number { result ≡ sizing_number (lent sizes) (lent codes) (lent floats) (number_room_of plan) }
-    ensures plan { plan.new ≡ numbers_output_of result plan (plan_numbers picks (lent sizes) (lent codes)) }
+    ensures number { result ≡ sizing_number sizes.now codes.now floats.now (number_room_of plan) }
+    ensures plan { plan.new ≡ numbers_output_of result plan (plan_numbers picks sizes.now codes.now) }
 {
     match sizing::sizing::sizing(sizes, codes, floats, picks) {
         Sizing::Planned(p) => put_plan(p, plan),
@@ -48,7 +48,7 @@ pub fn sizing(sizes: &[u16], codes: &[u16], floats: &[f64], picks: Picks, plan: 
 }
 
 pub fn set_goals(sizes: &[u16], codes: &[u16], floats: &[f64], limits: &[f64], goals: &[f64]) -> u16
-    ensures { result ≡ set_goals_number (sheet_of sizes codes floats limits) (lent goals) }
+    ensures { result ≡ set_goals_number (sheet_of sizes codes floats limits) goals.now }
 {
     let load = load::load_refusal(sizes, codes, floats, limits);
     if load != 0 {
@@ -65,7 +65,7 @@ pub fn set_tool(
     tool: &[f64],
     chain: usize,
 ) -> u16
-    ensures { result ≡ set_tool_number (sheet_of sizes codes floats limits) (lent tool) chain }
+    ensures { result ≡ set_tool_number (sheet_of sizes codes floats limits) tool.now chain }
 {
     let load = load::load_refusal(sizes, codes, floats, limits);
     if load != 0 {
@@ -84,9 +84,9 @@ pub fn frames(
     positions: &mut [u8],
     rotations: &mut [u8],
 ) -> u16
-    ensures number { result ≡ frames_number (sheet_of sizes codes floats limits) (lent joints) (room_of positions) (room_of rotations) }
-    ensures positions { positions.new ≡ output_of result positions (frame_positions (sheet_of sizes codes floats limits) (lent joints)) }
-    ensures rotations { rotations.new ≡ output_of result rotations (frame_rotations (sheet_of sizes codes floats limits) (lent joints)) }
+    ensures number { result ≡ frames_number (sheet_of sizes codes floats limits) joints.now (room_of positions) (room_of rotations) }
+    ensures positions { positions.new ≡ output_of result positions (frame_positions (sheet_of sizes codes floats limits) joints.now) }
+    ensures rotations { rotations.new ≡ output_of result rotations (frame_rotations (sheet_of sizes codes floats limits) joints.now) }
 {
     let load = load::load_refusal(sizes, codes, floats, limits);
     if load != 0 {
@@ -118,8 +118,8 @@ pub fn pose(
     joints: &[f64],
     ends: &mut [u8],
 ) -> u16
-    ensures number { result ≡ pose_number (sheet_of sizes codes floats limits) (lent tools) (lent joints) (room_of ends) }
-    ensures ends { ends.new ≡ output_of result ends (end_poses (sheet_of sizes codes floats limits) (lent tools) (lent joints)) }
+    ensures number { result ≡ pose_number (sheet_of sizes codes floats limits) tools.now joints.now (room_of ends) }
+    ensures ends { ends.new ≡ output_of result ends (end_poses (sheet_of sizes codes floats limits) tools.now joints.now) }
 {
     let load = load::load_refusal(sizes, codes, floats, limits);
     if load != 0 {
@@ -149,8 +149,8 @@ pub fn update(
     joints: &[f64],
     out: &mut [u8],
 ) -> u16
-    ensures number { result ≡ update_number (sheet_of sizes codes floats limits) (lent history) (lent joints) (room_of out) }
-    ensures history { out.new ≡ output_of result out (updated_blocks (lent history) (lent joints)) }
+    ensures number { result ≡ update_number (sheet_of sizes codes floats limits) history.now joints.now (room_of out) }
+    ensures history { out.new ≡ output_of result out (updated_blocks history.now joints.now) }
 {
     let load = load::load_refusal(sizes, codes, floats, limits);
     if load != 0 {
@@ -193,9 +193,9 @@ pub fn reset(
     history: &mut [u8],
     ends: &mut [u8],
 ) -> u16
-    ensures number { result ≡ reset_number (sheet_of sizes codes floats limits) (lent tools) (lent joints) (room_of history) (room_of ends) }
-    ensures history { history.new ≡ output_of result history (reset_blocks (lent joints)) }
-    ensures ends { ends.new ≡ output_of result ends (end_poses (sheet_of sizes codes floats limits) (lent tools) (lent joints)) }
+    ensures number { result ≡ reset_number (sheet_of sizes codes floats limits) tools.now joints.now (room_of history) (room_of ends) }
+    ensures history { history.new ≡ output_of result history (reset_blocks joints.now) }
+    ensures ends { ends.new ≡ output_of result ends (end_poses (sheet_of sizes codes floats limits) tools.now joints.now) }
 {
     let load = load::load_refusal(sizes, codes, floats, limits);
     if load != 0 {
@@ -230,8 +230,8 @@ pub fn manipulability(
     joints: &[f64],
     value: &mut [u8],
 ) -> u16
-    ensures number { result ≡ manipulability_number (sheet_of sizes codes floats limits) (lent joints) (room_of value) }
-    ensures value { value.new ≡ output_of result value (manipulability_value (sheet_of sizes codes floats limits) (lent joints)) }
+    ensures number { result ≡ manipulability_number (sheet_of sizes codes floats limits) joints.now (room_of value) }
+    ensures value { value.new ≡ output_of result value (manipulability_value (sheet_of sizes codes floats limits) joints.now) }
 {
     let load = load::load_refusal(sizes, codes, floats, limits);
     if load != 0 {

@@ -8,7 +8,7 @@ use sheet::reader;
 
 // Sizes that are refused may be empty, so they are read as no chain.
 pub fn tools_number(sizes: &[u16], tools: &[f64; 32]) -> u16
-    ensures { result ≡ tools_refusal (chains_of (lent sizes)) (lent tools) }
+    ensures { result ≡ tools_refusal (chains_of sizes.now) tools.now }
 {
     tools::tools_refusal(reader::read(sizes, 0) as usize, tools)
 }

@@ -1,10 +1,9 @@
 -- What the objective and its gradients ask of what is lent to them, and their refusals.
 use Rattle.std.specs.Prelude.{◌≡◌, refl, List, ℕ, zero, suc, ◌+◌, ◌*◌, ◌≤◌, ◌<◌, Float, length, get_or}
 use Rattle.std.proofs.Common.{sym, ◌∙◌, arith}
-use Rattle.std.specs.Borrow.{Bor}
 use Rattle.lists.specs.Splice.{splice}
 use Rattle.sheet.specs.Chain.{chain_start, chain-start-next, joint-le, joints, chain_length}
-use Rattle.lists.specs.Lent.{lent, LentList}
+use Rattle.lists.specs.Lent.{LentOutput, output_lent}
 use Rattle.task.specs.Task.{task_length}
 use Rattle.self_collision.specs.Pairs.{Paired, paired_is}
 use Rattle.refusals.specs.Lengths.{scratch_length, slopes_length}
@@ -27,8 +26,8 @@ unfoldable pub slopes_refusal : List ℕ → List Float → ℕ → ℕ → ℕ
 slopes_refusal cs x scratch slopes = first_of (block_refusal cs x) (first_of (room_refusal (scratch_length cs) scratch) (room_refusal (slopes_length cs) slopes))
 
 -- a list that a call with refusal number n is lent, at exit: ys in its front, or as it was where the call is refused
-abbrev pub FrontIfTaken : {A : Type 0} → ℕ → LentList A (Bor (List A)) → List A → Type 0
-FrontIfTaken n xs ys = xs.exit.now ≡ if_taken n (lent xs) (splice (lent xs) 0 ys)
+abbrev pub FrontIfTaken : {A : Type 0} → ℕ → LentOutput A → List A → Type 0
+FrontIfTaken n xs ys = xs.exit.now ≡ if_taken n (output_lent xs) (splice (output_lent xs) 0 ys)
 
 -- ---- laws: what an accepted call knows
 pub ready_of : (ns cs : List ℕ) (task gs x : List Float) → AcceptedTask ns cs task gs → block_refusal cs x ≡ 0 → Ready ns cs task gs x

@@ -1,9 +1,8 @@
 -- The one-block gradient's refusals.
 use Rattle.std.specs.Prelude.{◌≡◌, List, ℕ, ◌≤◌, Float, length}
 use Rattle.std.proofs.Common.{arith}
-use Rattle.std.specs.Borrow.{Bor}
 use Rattle.sheet.specs.Chain.{total, joints}
-use Rattle.lists.specs.Lent.{LentList}
+use Rattle.lists.specs.Lent.{LentOutput}
 use Rattle.refusals.specs.Lengths.{slopes_length, record_poses_length}
 use Rattle.refusals.specs.Lowest.{first_of, first-none}
 use Rattle.refusals.specs.Refusal.{block_refusal, room_refusal}
@@ -22,7 +21,7 @@ one_block_refusal ns cs x slopes record_joints record_links record_poses =
     first_of (block_refusal cs x) (first_of (room_refusal (slopes_length cs) slopes) (record_refusal (entries_of ns cs) record_joints record_links record_poses))
 
 -- the record's lists at exit, of a call with refusal number n
-abbrev pub RecordIfTaken : ℕ → LentList ℕ (Bor (List ℕ)) → LentList ℕ (Bor (List ℕ)) → LentList Float (Bor (List Float)) → List ℕ → List ℕ → List Float → List Float → Type 0
+abbrev pub RecordIfTaken : ℕ → LentOutput ℕ → LentOutput ℕ → LentOutput Float → List ℕ → List ℕ → List Float → List Float → Type 0
 RecordIfTaken n rj rl rp ns cs gs x = FrontIfTaken n rj (record_joints ns cs) × FrontIfTaken n rl (record_links ns cs) × FrontIfTaken n rp (record_poses ns cs gs x)
 
 -- ---- laws

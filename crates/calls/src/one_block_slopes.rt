@@ -34,7 +34,7 @@ fn one_block_refusal(
     record_poses: usize,
 ) -> u16
     requires { Accepted counts.now codes.now floats.now }
-    ensures { result ≡ one_block_refusal (lent counts) (lent codes) (lent block) slopes record_joints record_links record_poses }
+    ensures { result ≡ one_block_refusal counts.now codes.now block.now slopes record_joints record_links record_poses }
 {
     let seven = lent::block_refusal(codes, block);
     let room = lent::room_refusal(lengths::block_length(codes), slopes);
@@ -57,11 +57,11 @@ pub fn gradient_one_block(
     record_poses: &mut [f64],
 ) -> Answer
     requires { AcceptedTask counts.now codes.now task.now floats.now }
-    ensures number { number_of result ≡ one_block_refusal (lent counts) (lent codes) (lent block) (length (lent slopes)) (length (lent record_joints)) (length (lent record_links)) (length (lent record_poses)) }
-    ensures value { (answer_value result ≡ value_if (number_of result) (value_at (given_in counts codes task picks) (lent floats) (lent block))) × (result ≡ answer_of (number_of result) (answer_value result)) }
-    ensures block { block.new ≡ lent block }
-    ensures slopes { FrontIfTaken (number_of result) slopes (gradient_of (given_in counts codes task picks) (lent floats) (lent block)) }
-    ensures record { RecordIfTaken (number_of result) record_joints record_links record_poses (lent counts) (lent codes) (lent floats) (lent block) }
+    ensures number { number_of result ≡ one_block_refusal counts.now codes.now block.old (length slopes.old) (length record_joints.old) (length record_links.old) (length record_poses.old) }
+    ensures value { (answer_value result ≡ value_if (number_of result) (value_at (given_in counts codes task picks) floats.now block.old)) × (result ≡ answer_of (number_of result) (answer_value result)) }
+    ensures block { block.new ≡ block.old }
+    ensures slopes { FrontIfTaken (number_of result) slopes (gradient_of (given_in counts codes task picks) floats.now block.old) }
+    ensures record { RecordIfTaken (number_of result) record_joints record_links record_poses counts.now codes.now floats.now block.old }
 {
     let number = one_block_refusal(
         counts,

@@ -13,7 +13,7 @@ use refusals::{lengths, lent};
 use task::picks::Picks;
 
 fn slopes_refusal(codes: &[u16], joints: &[f64], scratch: usize, slopes: usize) -> u16
-    ensures { result ≡ slopes_refusal (lent codes) (lent joints) scratch slopes }
+    ensures { result ≡ slopes_refusal codes.now joints.now scratch slopes }
 {
     let n = lengths::block_length(codes);
     let seven = lent::block_refusal(codes, joints);
@@ -35,11 +35,11 @@ pub fn gradient(
     slopes: &mut [f64],
 ) -> Answer
     requires { AcceptedTask counts.now codes.now task.now floats.now }
-    ensures number { number_of result ≡ slopes_refusal (lent codes) (lent joints) (length (lent scratch)) (length (lent slopes)) }
-    ensures value { answer_value result ≡ value_if (number_of result) (value_at (given_in counts codes task picks) (lent floats) (lent joints)) }
+    ensures number { number_of result ≡ slopes_refusal codes.now joints.now (length scratch.old) (length slopes.old) }
+    ensures value { answer_value result ≡ value_if (number_of result) (value_at (given_in counts codes task picks) floats.now joints.now) }
     ensures case { result ≡ answer_of (number_of result) (answer_value result) }
-    ensures scratch { FrontIfTaken (number_of result) scratch (lent joints) }
-    ensures slopes { FrontIfTaken (number_of result) slopes (slopes_of rule (given_in counts codes task picks) (lent floats) (lent joints)) }
+    ensures scratch { FrontIfTaken (number_of result) scratch joints.now }
+    ensures slopes { FrontIfTaken (number_of result) slopes (slopes_of rule (given_in counts codes task picks) floats.now joints.now) }
 {
     let number = slopes_refusal(codes, joints, scratch.len(), slopes.len());
     if number != 0 {

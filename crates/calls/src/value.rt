@@ -21,8 +21,8 @@ pub fn objective(
     block: &[f64],
 ) -> Answer
     requires { AcceptedTask counts.now codes.now task.now floats.now }
-    ensures number { number_of result ≡ block_refusal (lent codes) (lent block) }
-    ensures value { answer_value result ≡ value_if (number_of result) (value_at (given_in counts codes task picks) (lent floats) (lent block)) }
+    ensures number { number_of result ≡ block_refusal codes.now block.now }
+    ensures value { answer_value result ≡ value_if (number_of result) (value_at (given_in counts codes task picks) floats.now block.now) }
     ensures case { result ≡ answer_of (number_of result) (answer_value result) }
 {
     let number = lent::block_refusal(codes, block);

@@ -1,7 +1,7 @@
 -- What a byte call is lent: the sheet's four lists as one value, and the lists beside it.
 use Rattle.std.specs.Prelude.{◌≡◌, List, ℕ, Float, length, take}
 use Rattle.std.proofs.Common.{ap, ◌∙◌}
-use Rattle.lists.specs.Lent.{LentList, lent}
+use Rattle.lists.specs.Lent.{LentList, lent, LentOutput, output_lent}
 use Rattle.lent_bytes.specs.Lent.{Front, numbers_in, floats_in, room_in, number_room_in}
 use Rattle.lent_bytes.specs.declared.sheet_lists.SheetCounts.{SheetCounts}
 use Rattle.lent_bytes.specs.declared.task_lists.TaskCounts.{TaskCounts}
@@ -65,11 +65,11 @@ abbrev pub history_in : {X : Type 0} → LentList ℕ X → List Float
 history_in history = history_from (lent history)
 
 -- the room in floats of an output, and in u16s
-abbrev pub room_of : {X : Type 0} → LentList ℕ X → ℕ
-room_of out = room_in (length (lent out))
+abbrev pub room_of : LentOutput ℕ → ℕ
+room_of out = room_in (length (output_lent out))
 
-abbrev pub number_room_of : {X : Type 0} → LentList ℕ X → ℕ
-number_room_of out = number_room_in (length (lent out))
+abbrev pub number_room_of : LentOutput ℕ → ℕ
+number_room_of out = number_room_in (length (output_lent out))
 
 -- the lists of a sheet at the fronts of four lists, n of each
 pub record SheetHeld (s : SheetLists) (n : SheetCounts) (sizes codes : List ℕ) (floats limits : List Float) : Type 0 where

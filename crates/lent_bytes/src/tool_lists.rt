@@ -8,7 +8,7 @@ use task::lay;
 
 // The seven floats of a list, NaNs where it has not seven.
 fn seven(b: &[u8]) -> [f64; 7]
-    ensures { result ≡ seven_from (lent b) }
+    ensures { result ≡ seven_from b.now }
 {
     let mut t = [0.0; 7];
     let n = lent::floats(b, &mut t);
@@ -21,7 +21,7 @@ fn seven(b: &[u8]) -> [f64; 7]
 
 // A chain's eight floats: 1 and the tool's seven, or zeros for none.
 fn tool(b: &[u8]) -> [f64; 8]
-    ensures { result ≡ tool_from (lent b) }
+    ensures { result ≡ tool_from b.now }
 {
     if b.len() == 0 {
         return [0.0; 8];

@@ -27,7 +27,7 @@ pub fn task_number(
     history: &[f64],
     joints: &[f64],
 ) -> u16
-    ensures { result ≡ task_number (sheet_of sizes codes floats limits) (lent goals) (lent history) (lent joints) }
+    ensures { result ≡ task_number (sheet_of sizes codes floats limits) goals.now history.now joints.now }
 {
     let load = load::load_refusal(sizes, codes, floats, limits);
     if load != 0 {
@@ -42,7 +42,7 @@ pub fn task_number(
 
 // Of the lists that may be left out.
 pub fn optional_number(sizes: &[u16], weights: &[f64], tools: &[f64; 32]) -> u16
-    ensures { result ≡ first_of (weights_refusal (lent weights)) (tools_refusal (chains_of (lent sizes)) (lent tools)) }
+    ensures { result ≡ first_of (weights_refusal weights.now) (tools_refusal (chains_of sizes.now) tools.now) }
 {
     lent::first_of(lent::weights_refusal(weights), tools_number(sizes, tools))
 }
@@ -62,7 +62,7 @@ fn slopes_number(
     value: usize,
     slopes: usize,
 ) -> u16
-    ensures { result ≡ slopes_number (sheet_of sizes codes floats limits) (task_of goals history weights tools) (lent joints) (room_in scratch) (room_in value) (room_in slopes) }
+    ensures { result ≡ slopes_number (sheet_of sizes codes floats limits) (task_of goals history weights tools) joints.now (room_in scratch) (room_in value) (room_in slopes) }
 {
     let of_task = task_number(sizes, codes, floats, limits, goals, history, joints);
     let n = lengths::block_length(codes);
@@ -89,7 +89,7 @@ fn value_on(
     joints: &[f64],
 ) -> f64
     requires { Passed (sheet_with sizes.now codes.now floats.now limits.now) (task_with goals.now history.now weights.now tools.now) joints.now }
-    ensures { result ≡ value_in (sheet_of sizes codes floats limits) (task_of goals history weights tools) picks (lent joints) }
+    ensures { result ≡ value_in (sheet_of sizes codes floats limits) (task_of goals history weights tools) picks joints.now }
 {
     let counts = shape::links(sizes);
     let mut task = [0.0; task::LENGTH];
@@ -122,9 +122,9 @@ fn slopes_on(
     slopes: &mut [f64],
 ) -> f64
     requires { (Passed (sheet_with sizes.now codes.now floats.now limits.now) (task_with goals.now history.now weights.now tools.now) joints.now) × (length scratch.old ≡ 16) × (length slopes.old ≡ 16) }
-    ensures value { result ≡ value_in (sheet_of sizes codes floats limits) (task_of goals history weights tools) picks (lent joints) }
-    ensures slopes_after { slopes.new ≡ splice (lent slopes) 0 (slopes_in rule (sheet_of sizes codes floats limits) (task_of goals history weights tools) picks (lent joints)) }
-    ensures scratch_after { scratch.new ≡ splice (lent scratch) 0 (lent joints) }
+    ensures value { result ≡ value_in (sheet_of sizes codes floats limits) (task_of goals history weights tools) picks joints.now }
+    ensures slopes_after { slopes.new ≡ splice slopes.old 0 (slopes_in rule (sheet_of sizes codes floats limits) (task_of goals history weights tools) picks joints.now) }
+    ensures scratch_after { scratch.new ≡ splice scratch.old 0 joints.now }
 {
     let counts = shape::links(sizes);
     let mut task = [0.0; task::LENGTH];
@@ -154,9 +154,9 @@ fn put_answers(
 )
     requires n_in_bounds { (n ≤ length x.now) × (n ≤ length d.now) }
     requires n_in_bounds_2 { (8 * n ≤ length scratch.old) × (8 ≤ length value.old) × (8 * n ≤ length slopes.old) }
-    ensures scratch_after { scratch.new ≡ splice (lent scratch) 0 (bytes_of (take n (lent x))) }
-    ensures value_after { value.new ≡ splice (lent value) 0 (bytes_of (v ∷ [])) }
-    ensures slopes_after { slopes.new ≡ splice (lent slopes) 0 (bytes_of (take n (lent d))) }
+    ensures scratch_after { scratch.new ≡ splice scratch.old 0 (bytes_of (take n x.now)) }
+    ensures value_after { value.new ≡ splice value.old 0 (bytes_of (v ∷ [])) }
+    ensures slopes_after { slopes.new ≡ splice slopes.old 0 (bytes_of (take n d.now)) }
 {
     let one = [v];
     bytes_lent::put_floats(&x[..n], 0, scratch);
@@ -177,8 +177,8 @@ pub(crate) fn objective(
     joints: &[f64],
     value: &mut [u8],
 ) -> u16
-    ensures number { result ≡ objective_number (sheet_of sizes codes floats limits) (task_of goals history weights tools) (lent joints) (room_of value) }
-    ensures value { value.new ≡ output_of result value (objective_value (sheet_of sizes codes floats limits) (task_of goals history weights tools) picks (lent joints)) }
+    ensures number { result ≡ objective_number (sheet_of sizes codes floats limits) (task_of goals history weights tools) joints.now (room_of value) }
+    ensures value { value.new ≡ output_of result value (objective_value (sheet_of sizes codes floats limits) (task_of goals history weights tools) picks joints.now) }
 {
     let of_task = task_number(sizes, codes, floats, limits, goals, history, joints);
     let nine = lent::room_refusal(1, bytes_lent::room(value.len()));
@@ -210,10 +210,10 @@ pub(crate) fn gradient(
     value: &mut [u8],
     slopes: &mut [u8],
 ) -> u16
-    ensures number { result ≡ slopes_number (sheet_of sizes codes floats limits) (task_of goals history weights tools) (lent joints) (room_of scratch) (room_of value) (room_of slopes) }
-    ensures scratch { scratch.new ≡ output_of result scratch (lent joints) }
-    ensures value { value.new ≡ output_of result value (objective_value (sheet_of sizes codes floats limits) (task_of goals history weights tools) picks (lent joints)) }
-    ensures slopes { slopes.new ≡ output_of result slopes (slopes_in rule (sheet_of sizes codes floats limits) (task_of goals history weights tools) picks (lent joints)) }
+    ensures number { result ≡ slopes_number (sheet_of sizes codes floats limits) (task_of goals history weights tools) joints.now (room_of scratch) (room_of value) (room_of slopes) }
+    ensures scratch { scratch.new ≡ output_of result scratch joints.now }
+    ensures value { value.new ≡ output_of result value (objective_value (sheet_of sizes codes floats limits) (task_of goals history weights tools) picks joints.now) }
+    ensures slopes { slopes.new ≡ output_of result slopes (slopes_in rule (sheet_of sizes codes floats limits) (task_of goals history weights tools) picks joints.now) }
 {
     let number = slopes_number(
         sizes,

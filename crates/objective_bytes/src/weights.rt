@@ -9,7 +9,7 @@ use objective_master::weights;
 
 // The weights in force go to the front of `w`: of a list that is left out, the built-in ones.
 pub fn decode(b: &[u8], w: &mut [f64; 8]) -> usize
-    ensures { Front (in_force_from (lent b)) w.new result }
+    ensures { Front (in_force_from b.now) w.new result }
 {
     match optional::floats(b, w) {
         Optional::Empty => {

@@ -1,10 +1,9 @@
 -- The record of the one-block gradient, made from separate copies of the block. No copy's walk depends on another.
 use Rattle.std.specs.Prelude.{◌≡◌, cond, List, [], ◌∷◌, ◌++◌, ℕ, zero, suc, ◌+◌, ◌-◌, ◌*◌, ◌≤◌, ◌<◌, eqb, Float, get_or, length, take}
-use Rattle.std.specs.Borrow.{Bor}
 use Rattle.lists.specs.Splice.{splice}
 use Rattle.lists.specs.Runs.{runs}
 use Rattle.sheet.specs.Chain.{end_in, joints_of, joint_of}
-use Rattle.lists.specs.Lent.{lent, LentList}
+use Rattle.lists.specs.Lent.{LentOutput, output_lent}
 use Rattle.spacetime.specs.Floats.{flat}
 use Rattle.spacetime.specs.Walk.{start_of, after_link, before_of, pose_of, frames_of}
 use Rattle.gradient.specs.Slopes.{step}
@@ -83,8 +82,8 @@ pub record Written (at : ℕ) (e : Entries) (joints₀ links₀ : List ℕ) (fra
   pub of-frames : frames ≡ splice frames₀ (7 * at) e.poses
 
 -- of a function's parameters
-abbrev pub Writes : ℕ → Entries → LentList ℕ (Bor (List ℕ)) → LentList ℕ (Bor (List ℕ)) → LentList Float (Bor (List Float)) → Type 0
-Writes at e joints links frames = Written at e (lent joints) (lent links) (lent frames) joints.exit.now links.exit.now frames.exit.now
+abbrev pub Writes : ℕ → Entries → LentOutput ℕ → LentOutput ℕ → LentOutput Float → Type 0
+Writes at e joints links frames = Written at e (output_lent joints) (output_lent links) (output_lent frames) joints.exit.now links.exit.now frames.exit.now
 
 -- the place after link l is walked from place p
 unfoldable pub place_after : List ℕ → List ℕ → List Float → List Float → ℕ → Place → Place

@@ -45,9 +45,9 @@ fn first_walk(
 )
     requires sheet { Sheet counts.now codes.now floats.now block.now }
     requires room { Room joints.old links.old frames.old (length codes.now) }
-    ensures joints_after { joints.new ≡ splice (lent joints) 0 (runs (joint_entry 65535) 0 (length (lent codes))) }
-    ensures links_after { links.new ≡ splice (lent links) 0 (runs (link_entry 65535) 0 (length (lent codes))) }
-    ensures frames_after { frames.new ≡ splice (lent frames) 0 (frames_of (lent counts) (lent codes) (lent floats) (lent block)) }
+    ensures joints_after { joints.new ≡ splice joints.old 0 (runs (joint_entry 65535) 0 (length codes.now)) }
+    ensures links_after { links.new ≡ splice links.old 0 (runs (link_entry 65535) 0 (length codes.now)) }
+    ensures frames_after { frames.new ≡ splice frames.old 0 (frames_of counts.now codes.now floats.now block.now) }
 {
     let here = Place {
         at: 0,
@@ -86,7 +86,7 @@ fn slope(
     requires lent { Lent counts.now codes.now task.now x.now frames.now (drop (7 * at) frames.now) walked.from walked.to }
     requires cached { Cached (given_of counts.now codes.now task.now picks) (view_of frames.now (drop (7 * at) frames.now) walked.from walked.to)
         x.now walked.from walked.to walked.joint f_0s.now }
-    ensures { result ≡ slope_to (given_in counts codes task picks) (lent f_0s) (view_of (lent frames) (drop (7 * at) (lent frames)) walked.from walked.to) (lent x) }
+    ensures { result ≡ slope_to (given_in counts codes task picks) f_0s.now (view_of frames.now (drop (7 * at) frames.now) walked.from walked.to) x.now }
 {
     let mut f_hs = [0.0; 131];
     lists::copy_floats(&f_0s[..kinds.len()], &mut f_hs);
@@ -124,10 +124,10 @@ fn one_joint(
     requires room { Room joints.old links.old frames.old (entries_of counts.now codes.now) }
     requires at_turn { AtTurn counts.now codes.now floats.now block.old turn frames.old × (get_or codes.now turn.link 0 ≡ 0 → ⊥) }
     requires basis { Basis counts.now codes.now task.now picks floats.now block.old kinds.now f_0s.now grad.old }
-    ensures value { result ≡ turn.here.at + again_at (lent counts) (lent codes) turn.link }
-    ensures block_after { block.new ≡ lent block }
-    ensures writes { Writes turn.here.at (again_entries (lent counts) (lent codes) (lent floats) (lent block) turn.link) joints links frames }
-    ensures grad_after { grad.new ≡ slopes_after (given_in counts codes task picks) (lent floats) (lent block) turn.link (lent grad) }
+    ensures value { result ≡ turn.here.at + again_at counts.now codes.now turn.link }
+    ensures block_after { block.new ≡ block.old }
+    ensures writes { Writes turn.here.at (again_entries counts.now codes.now floats.now block.old turn.link) joints links frames }
+    ensures grad_after { grad.new ≡ slopes_after (given_in counts codes task picks) floats.now block.old turn.link grad.old }
 {
     let link = turn.link;
     let here = turn.here;
@@ -170,10 +170,10 @@ fn link_turn(
     requires room { Room joints.old links.old frames.old (entries_of counts.now codes.now) }
     requires at_turn { AtTurn counts.now codes.now floats.now block.old turn frames.old }
     requires basis { Basis counts.now codes.now task.now picks floats.now block.old kinds.now f_0s.now grad.old }
-    ensures value { result ≡ place_after_turn (lent counts) (lent codes) (lent floats) (lent block) turn }
-    ensures block_after { block.new ≡ lent block }
-    ensures writes { Writes turn.here.at (again_entries (lent counts) (lent codes) (lent floats) (lent block) turn.link) joints links frames }
-    ensures grad_after { grad.new ≡ slopes_after (given_in counts codes task picks) (lent floats) (lent block) turn.link (lent grad) }
+    ensures value { result ≡ place_after_turn counts.now codes.now floats.now block.old turn }
+    ensures block_after { block.new ≡ block.old }
+    ensures writes { Writes turn.here.at (again_entries counts.now codes.now floats.now block.old turn.link) joints links frames }
+    ensures grad_after { grad.new ≡ slopes_after (given_in counts codes task picks) floats.now block.old turn.link grad.old }
 {
     let link = turn.link;
     let here = turn.here;
@@ -212,9 +212,9 @@ fn every_joint(
     requires room { Room joints.old links.old frames.old (entries_of counts.now codes.now) }
     requires frames_value { take (7 * length codes.now) frames.old ≡ frames_of counts.now codes.now floats.now block.old }
     requires basis { Basis counts.now codes.now task.now picks floats.now block.old kinds.now f_0s.now grad.old }
-    ensures block_after { block.new ≡ lent block }
-    ensures grad_after { grad.new ≡ splice (lent grad) 0 (gradient_of (given_in counts codes task picks) (lent floats) (lent block)) }
-    ensures writes { Writes (length (lent codes)) (every_again (lent counts) (lent codes) (lent floats) (lent block)) joints links frames }
+    ensures block_after { block.new ≡ block.old }
+    ensures grad_after { grad.new ≡ splice grad.old 0 (gradient_of (given_in counts codes task picks) floats.now block.old) }
+    ensures writes { Writes (length codes.now) (every_again counts.now codes.now floats.now block.old) joints links frames }
 {
     let mut p = Place {
         at: codes.len(),
@@ -247,11 +247,11 @@ pub fn gradient(
 ) -> f64
     requires ready { Ready counts.now codes.now task.now floats.now block.old × (length block.old ≤ length grad.old) }
     requires room { Room joints.old links.old frames.old (entries_of counts.now codes.now) }
-    ensures value { result ≡ value_at (given_in counts codes task picks) (lent floats) (lent block) }
-    ensures grad_after { grad.new ≡ splice (lent grad) 0 (gradient_of (given_in counts codes task picks) (lent floats) (lent block)) }
-    ensures block_after { block.new ≡ lent block }
-    ensures joints_after { (joints.new ≡ splice (lent joints) 0 (record_joints (lent counts) (lent codes))) × (links.new ≡ splice (lent links) 0 (record_links (lent counts) (lent codes))) }
-    ensures frames_after { frames.new ≡ splice (lent frames) 0 (record_poses (lent counts) (lent codes) (lent floats) (lent block)) }
+    ensures value { result ≡ value_at (given_in counts codes task picks) floats.now block.old }
+    ensures grad_after { grad.new ≡ splice grad.old 0 (gradient_of (given_in counts codes task picks) floats.now block.old) }
+    ensures block_after { block.new ≡ block.old }
+    ensures joints_after { (joints.new ≡ splice joints.old 0 (record_joints counts.now codes.now)) × (links.new ≡ splice links.old 0 (record_links counts.now codes.now)) }
+    ensures frames_after { frames.new ≡ splice frames.old 0 (record_poses counts.now codes.now floats.now block.old) }
 {
     let mut f_0s = [0.0; 131];
     let mut list = [0u16; 131];
@@ -285,7 +285,7 @@ pub fn gradient(
 // How many links are walked again for a link's joint.
 fn entries_again(counts: &[u16], codes: &[u16], link: usize) -> usize
     requires { (link < total counts.now) × (link < length codes.now) × (length counts.now ≤ 4) }
-    ensures { result ≡ again_at (lent counts) (lent codes) link }
+    ensures { result ≡ again_at counts.now codes.now link }
 {
     if !chain::has_joint_at(codes, link) {
         return 0;
@@ -297,7 +297,7 @@ fn entries_again(counts: &[u16], codes: &[u16], link: usize) -> usize
 // The number of entries that `gradient` writes.
 pub fn entries(counts: &[u16], codes: &[u16]) -> usize
     requires { (total counts.now ≡ length codes.now) × (length counts.now ≤ 4) × (length codes.now ≤ 64) }
-    ensures { result ≡ entries_of (lent counts) (lent codes) }
+    ensures { result ≡ entries_of counts.now codes.now }
 {
     let mut n = codes.len();
     let mut link: usize = 0;

@@ -39,10 +39,10 @@ pub fn walk_link(
     requires sheet { Sheet counts.now codes.now floats.now block.now }
     requires link_in_bounds { (link < length codes.now) × (here.joint ≡ joint_of codes.now link) }
     requires room { Room joints.old links.old frames.old (here.at + 1) }
-    ensures value { result ≡ place_after (lent counts) (lent codes) (lent floats) (lent block) link here }
-    ensures joints_after { joints.new ≡ splice (lent joints) here.at (raised ∷ []) }
-    ensures links_after { links.new ≡ splice (lent links) here.at (link ∷ []) }
-    ensures frames_after { frames.new ≡ splice (lent frames) (7 * here.at) (flat result.pose) }
+    ensures value { result ≡ place_after counts.now codes.now floats.now block.now link here }
+    ensures joints_after { joints.new ≡ splice joints.old here.at (raised ∷ []) }
+    ensures links_after { links.new ≡ splice links.old here.at (link ∷ []) }
+    ensures frames_after { frames.new ≡ splice frames.old (7 * here.at) (flat result.pose) }
 {
     let at = here.at;
     let joint = here.joint;
@@ -76,11 +76,11 @@ pub fn walk(
     requires from_le_to { (from ≤ to) × (to ≤ length codes.now) }
     requires meets { Meets counts.now codes.now floats.now block.now from here }
     requires room { Room joints.old links.old frames.old (here.at + (to - from)) }
-    ensures value { result ≡ place_after_all (lent counts) (lent codes) (lent floats) (lent block) from (to - from) here }
-    ensures joints_after { joints.new ≡ splice (lent joints) here.at (runs (joint_entry raised) from (to - from)) }
-    ensures links_after { links.new ≡ splice (lent links) here.at (runs (link_entry raised) from (to - from)) }
-    ensures frames_after { frames.new ≡ splice (lent frames) (7 * here.at)
-        (runs (poses (lent counts) (lent codes) (lent floats) (lent block)) from (to - from)) }
+    ensures value { result ≡ place_after_all counts.now codes.now floats.now block.now from (to - from) here }
+    ensures joints_after { joints.new ≡ splice joints.old here.at (runs (joint_entry raised) from (to - from)) }
+    ensures links_after { links.new ≡ splice links.old here.at (runs (link_entry raised) from (to - from)) }
+    ensures frames_after { frames.new ≡ splice frames.old (7 * here.at)
+        (runs (poses counts.now codes.now floats.now block.now) from (to - from)) }
 {
     let mut p = here;
     let mut link = from;
@@ -96,8 +96,8 @@ pub fn walk(
 // Raises a joint of the block, and answers its old value.
 pub fn raise(block: &mut [f64], joint: usize) -> f64
     requires { joint < length block.old }
-    ensures value { result ≡ get_or (lent block) joint nan }
-    ensures block_after { block.new ≡ raised_by step (lent block) joint }
+    ensures value { result ≡ get_or block.old joint nan }
+    ensures block_after { block.new ≡ raised_by step block.old joint }
 {
     let old = block[joint];
     block[joint] = old + 0.0000001;
@@ -122,11 +122,11 @@ pub fn walk_again(
     requires meets { Meets counts.now codes.now floats.now block.old link here }
     requires room { Room joints.old links.old frames.old (here.at + (end - link)) }
     ensures value { result ≡ here.at + (end - link) }
-    ensures block_after { block.new ≡ lent block }
-    ensures joints_after { joints.new ≡ splice (lent joints) here.at (runs (joint_entry here.joint) link (end - link)) }
-    ensures links_after { links.new ≡ splice (lent links) here.at (runs (link_entry here.joint) link (end - link)) }
-    ensures frames_after { frames.new ≡ splice (lent frames) (7 * here.at)
-        (runs (poses (lent counts) (lent codes) (lent floats) (lent block)) link (end - link)) }
+    ensures block_after { block.new ≡ block.old }
+    ensures joints_after { joints.new ≡ splice joints.old here.at (runs (joint_entry here.joint) link (end - link)) }
+    ensures links_after { links.new ≡ splice links.old here.at (runs (link_entry here.joint) link (end - link)) }
+    ensures frames_after { frames.new ≡ splice frames.old (7 * here.at)
+        (runs (poses counts.now codes.now floats.now block.old) link (end - link)) }
 {
     let raised = here.joint as u16;
     let after = walk(
@@ -138,8 +138,8 @@ pub fn walk_again(
 // Puts a joint's old value back: a block that was raised there is again what it was.
 pub fn put_back(block: &mut [f64], joint: usize, old: f64)
     requires { joint < length block.old }
-    ensures block_after { block.new ≡ set (lent block) joint old }
-    ensures block_after_2 { (x : List Float) (h : Float) → lent block ≡ raised_by h x joint → old ≡ get_or x joint nan → block.new ≡ x }
+    ensures block_after { block.new ≡ set block.old joint old }
+    ensures block_after_2 { (x : List Float) (h : Float) → block.old ≡ raised_by h x joint → old ≡ get_or x joint nan → block.new ≡ x }
 {
     block[joint] = old;
 }

@@ -1,13 +1,12 @@
 -- The byte call of the one-block gradient: its number, and its record.
 use Rattle.std.specs.Prelude.{◌≡◌, List, ℕ, Float}
-use Rattle.std.specs.Borrow.{Bor}
 use Rattle.lists.specs.Splice.{splice}
 use Rattle.refusals.specs.Lengths.{slopes_length, value_length}
 use Rattle.refusals.specs.Lowest.{first_of}
 use Rattle.refusals.specs.Refusal.{links_of, room_refusal}
 use Rattle.one_block.specs.Record.{entries_of, record_joints, record_links, record_poses}
 use Rattle.calls.specs.OneBlock.{record_refusal}
-use Rattle.lists.specs.Lent.{lent, LentList}
+use Rattle.lists.specs.Lent.{LentOutput, output_lent}
 use Rattle.lent_bytes.specs.SheetLists.{SheetLists}
 use Rattle.arm_bytes.specs.ArmCalls.{output_of, numbers_output_of}
 use Rattle.objective_bytes.specs.ObjectiveCalls.{TaskLists, task_number, optional_number}
@@ -34,11 +33,11 @@ unfoldable pub record_poses_in : SheetLists → List Float → List Float
 record_poses_in s x = record_poses (links_of s.sizes) s.codes s.floats x
 
 -- the record's three lists at the fronts of three lists
-abbrev pub RecordHeld : SheetLists → List Float → LentList ℕ (Bor (List ℕ)) → LentList ℕ (Bor (List ℕ)) → LentList Float (Bor (List Float)) → Type 0
+abbrev pub RecordHeld : SheetLists → List Float → LentOutput ℕ → LentOutput ℕ → LentOutput Float → Type 0
 RecordHeld s x joints links poses =
-    (joints.exit.now ≡ splice (lent joints) 0 (record_joints_in s)) × (links.exit.now ≡ splice (lent links) 0 (record_links_in s)) × (poses.exit.now ≡ splice (lent poses) 0 (record_poses_in s x))
+    (joints.exit.now ≡ splice (output_lent joints) 0 (record_joints_in s)) × (links.exit.now ≡ splice (output_lent links) 0 (record_links_in s)) × (poses.exit.now ≡ splice (output_lent poses) 0 (record_poses_in s x))
 
 -- and as bytes in three outputs, after a call of number r
-abbrev pub RecordWritten : ℕ → SheetLists → List Float → LentList ℕ (Bor (List ℕ)) → LentList ℕ (Bor (List ℕ)) → LentList ℕ (Bor (List ℕ)) → Type 0
+abbrev pub RecordWritten : ℕ → SheetLists → List Float → LentOutput ℕ → LentOutput ℕ → LentOutput ℕ → Type 0
 RecordWritten r s x joints links poses =
     (joints.exit.now ≡ numbers_output_of r joints (record_joints_in s)) × (links.exit.now ≡ numbers_output_of r links (record_links_in s)) × (poses.exit.now ≡ output_of r poses (record_poses_in s x))

@@ -42,7 +42,7 @@ fn one_block_number(
     record_links: usize,
     record_poses: usize,
 ) -> u16
-    ensures { result ≡ one_block_number (sheet_of sizes codes floats limits) (task_of goals history weights tools) (lent joints)
+    ensures { result ≡ one_block_number (sheet_of sizes codes floats limits) (task_of goals history weights tools) joints.now
         (room_in value) (room_in slopes) (number_room_in record_joints) (number_room_in record_links) (room_in record_poses) }
 {
     let of_task = objective_lists::task_number(
@@ -84,10 +84,10 @@ fn one_block_on(
     requires passed { Passed (sheet_with sizes.now codes.now floats.now limits.now) (task_with goals.now history.now weights.now tools.now) block.old }
     requires slopes_len { (length slopes.old ≡ 16) × (length record_joints.old ≡ 320) × (length record_links.old ≡ 320) }
     requires limits_in_bounds { 7 * entries_in (sheet_with sizes.now codes.now floats.now limits.now) ≤ length record_poses.old }
-    ensures value { result ≡ value_in (sheet_of sizes codes floats limits) (task_of goals history weights tools) picks (lent block) }
+    ensures value { result ≡ value_in (sheet_of sizes codes floats limits) (task_of goals history weights tools) picks block.old }
     ensures block_unchanged { block.new ≡ block.old }
-    ensures slopes_after { slopes.new ≡ splice (lent slopes) 0 (gradient_slopes (sheet_of sizes codes floats limits) (task_of goals history weights tools) picks (lent block)) }
-    ensures record_held { RecordHeld (sheet_of sizes codes floats limits) (lent block) record_joints record_links record_poses }
+    ensures slopes_after { slopes.new ≡ splice slopes.old 0 (gradient_slopes (sheet_of sizes codes floats limits) (task_of goals history weights tools) picks block.old) }
+    ensures record_held { RecordHeld (sheet_of sizes codes floats limits) block.old record_joints record_links record_poses }
 {
     let counts = shape::links(sizes);
     let mut task = [0.0; task::LENGTH];
@@ -117,8 +117,8 @@ fn one_block_on(
 // v and the first n slopes, as bytes.
 fn put_slopes(v: f64, d: &[f64], n: usize, value: &mut [u8], slopes: &mut [u8])
     requires { (n ≤ length d.now) × (8 ≤ length value.old) × (8 * n ≤ length slopes.old) }
-    ensures value_after { value.new ≡ splice (lent value) 0 (bytes_of (v ∷ [])) }
-    ensures slopes_after { slopes.new ≡ splice (lent slopes) 0 (bytes_of (take n (lent d))) }
+    ensures value_after { value.new ≡ splice value.old 0 (bytes_of (v ∷ [])) }
+    ensures slopes_after { slopes.new ≡ splice slopes.old 0 (bytes_of (take n d.now)) }
 {
     let one = [v];
     bytes_lent::put_floats(&one, 0, value);
@@ -137,9 +137,9 @@ fn put_record(
 )
     requires n_in_bounds { (n ≤ length joints.now) × (n ≤ length links.now) × (7 * n ≤ length poses.now) }
     requires n_in_bounds_2 { (2 * n ≤ length record_joints.old) × (2 * n ≤ length record_links.old) × (8 * (7 * n) ≤ length record_poses.old) }
-    ensures record_joints_after { record_joints.new ≡ splice (lent record_joints) 0 (bytes_of_numbers (take n (lent joints))) }
-    ensures record_links_after { record_links.new ≡ splice (lent record_links) 0 (bytes_of_numbers (take n (lent links))) }
-    ensures record_poses_after { record_poses.new ≡ splice (lent record_poses) 0 (bytes_of (take (7 * n) (lent poses))) }
+    ensures record_joints_after { record_joints.new ≡ splice record_joints.old 0 (bytes_of_numbers (take n joints.now)) }
+    ensures record_links_after { record_links.new ≡ splice record_links.old 0 (bytes_of_numbers (take n links.now)) }
+    ensures record_poses_after { record_poses.new ≡ splice record_poses.old 0 (bytes_of (take (7 * n) poses.now)) }
 {
     let wide = 7 * n;
     bytes_lent::put_numbers(&joints[..n], 0, record_joints);
@@ -169,9 +169,9 @@ fn put_one_block(
     requires fitted { Fitted (sheet_with sizes.now codes.now floats.now limits.now) (task_with goals.now history.now weights.now tools.now) block.old
         (length value.old) (length slopes.old) (length record_joints.old) (length record_links.old) (length record_poses.old) }
     requires limits_in_bounds { 7 * entries_in (sheet_with sizes.now codes.now floats.now limits.now) ≤ length poses.old }
-    ensures value_after { value.new ≡ output_of 0 value (objective_value (sheet_of sizes codes floats limits) (task_of goals history weights tools) picks (lent block)) }
-    ensures slopes_after { slopes.new ≡ output_of 0 slopes (gradient_slopes (sheet_of sizes codes floats limits) (task_of goals history weights tools) picks (lent block)) }
-    ensures record_written { RecordWritten 0 (sheet_of sizes codes floats limits) (lent block) record_joints record_links record_poses }
+    ensures value_after { value.new ≡ output_of 0 value (objective_value (sheet_of sizes codes floats limits) (task_of goals history weights tools) picks block.old) }
+    ensures slopes_after { slopes.new ≡ output_of 0 slopes (gradient_slopes (sheet_of sizes codes floats limits) (task_of goals history weights tools) picks block.old) }
+    ensures record_written { RecordWritten 0 (sheet_of sizes codes floats limits) block.old record_joints record_links record_poses }
 {
     let mut d = [0.0; 16];
     let mut rj = [0u16; 320];
@@ -211,11 +211,11 @@ pub(crate) fn gradient_one_block(
     record_links: &mut [u8],
     record_poses: &mut [u8],
 ) -> u16
-    ensures number { result ≡ one_block_number (sheet_of sizes codes floats limits) (task_of goals history weights tools) (lent block)
+    ensures number { result ≡ one_block_number (sheet_of sizes codes floats limits) (task_of goals history weights tools) block.old
         (room_of value) (room_of slopes) (number_room_of record_joints) (number_room_of record_links) (room_of record_poses) }
-    ensures value { value.new ≡ output_of result value (objective_value (sheet_of sizes codes floats limits) (task_of goals history weights tools) picks (lent block)) }
-    ensures slopes { slopes.new ≡ output_of result slopes (gradient_slopes (sheet_of sizes codes floats limits) (task_of goals history weights tools) picks (lent block)) }
-    ensures record { RecordWritten result (sheet_of sizes codes floats limits) (lent block) record_joints record_links record_poses }
+    ensures value { value.new ≡ output_of result value (objective_value (sheet_of sizes codes floats limits) (task_of goals history weights tools) picks block.old) }
+    ensures slopes { slopes.new ≡ output_of result slopes (gradient_slopes (sheet_of sizes codes floats limits) (task_of goals history weights tools) picks block.old) }
+    ensures record { RecordWritten result (sheet_of sizes codes floats limits) block.old record_joints record_links record_poses }
 {
     let number = one_block_number(
         sizes,

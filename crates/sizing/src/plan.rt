@@ -27,7 +27,7 @@ pub enum Sizing {
 // The plan of a good sheet.
 pub(crate) fn of_sheet(counts: &[u16], codes: &[u16], floats: &[f64], picks: Picks) -> Plan
     requires { Accepted counts.now codes.now floats.now }
-    ensures { result ≡ plan_of picks (lent counts) (lent codes) }
+    ensures { result ≡ plan_of picks counts.now codes.now }
 {
     let positions = lengths::positions_length(counts);
     let rotations = lengths::rotations_length(counts);

@@ -10,7 +10,7 @@ use task::picks::Picks;
 
 // The plan of a sheet, its objectives those of the list that is picked, or the number with which loading refuses it where its limits are good.
 pub fn sizing(sizes: &[u16], codes: &[u16], floats: &[f64], picks: Picks) -> Sizing
-    ensures { result ≡ sizing_of picks (lent sizes) (lent codes) (lent floats) }
+    ensures { result ≡ sizing_of picks sizes.now codes.now floats.now }
 {
     let number = load::sizing_refusal(sizes, codes, floats);
     if number != 0 {

@@ -1,7 +1,6 @@
 -- The gradient on one block, by the state: its number, and its record.
 use Rattle.std.specs.Prelude.{Bool, List, ℕ, Float}
-use Rattle.std.specs.Borrow.{Bor}
-use Rattle.lists.specs.Lent.{LentList}
+use Rattle.lists.specs.Lent.{LentOutput}
 use Rattle.one_block.specs.Record.{record_joints, record_links, record_poses}
 use Rattle.calls.specs.OneBlock.{one_block_refusal, RecordIfTaken}
 use Rattle.state_calls.specs.declared.state.State.{State}
@@ -27,5 +26,5 @@ abbrev pub record_poses_of : State → List Float → List Float
 record_poses_of s x = record_poses (links_used s.arms.sizes) (codes_used s.arms.sizes s.arms.codes) (link_floats s) x
 
 -- and these lists at exit, of a call with number n
-abbrev pub RecordStored : ℕ → LentList ℕ (Bor (List ℕ)) → LentList ℕ (Bor (List ℕ)) → LentList Float (Bor (List Float)) → List ℕ → List ℕ → List Float → List Float → Type 0
+abbrev pub RecordStored : ℕ → LentOutput ℕ → LentOutput ℕ → LentOutput Float → List ℕ → List ℕ → List Float → List Float → Type 0
 RecordStored n rj rl rp ss cs gs x = RecordIfTaken n rj rl rp (links_used ss) (codes_used ss cs) (floats_used ss gs) x

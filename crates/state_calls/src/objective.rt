@@ -52,11 +52,11 @@ fn gradient_by(
     scratch: &mut [f64],
     slopes: &mut [f64],
 ) -> Answer
-    ensures number { number_of result ≡ gradient_number_of state (lent joints) (length (lent scratch)) (length (lent slopes)) }
-    ensures value { answer_value result ≡ value_if (number_of result) (objective_value_of state picks.strict (lent joints)) }
+    ensures number { number_of result ≡ gradient_number_of state joints.now (length scratch.old) (length slopes.old) }
+    ensures value { answer_value result ≡ value_if (number_of result) (objective_value_of state picks.strict joints.now) }
     ensures case { result ≡ answer_of (number_of result) (answer_value result) }
-    ensures scratch { FrontIfTaken (number_of result) scratch (lent joints) }
-    ensures slopes { FrontIfTaken (number_of result) slopes (slopes_of rule (given_state state picks.strict) (link_floats state) (lent joints)) }
+    ensures scratch { FrontIfTaken (number_of result) scratch joints.now }
+    ensures slopes { FrontIfTaken (number_of result) slopes (slopes_of rule (given_state state picks.strict) (link_floats state) joints.now) }
 {
     let arms = state.arms;
     let sizes = arms.sizes;

@@ -29,11 +29,11 @@ fn gradient_one_block_on(
     record_poses: &mut [f64],
 ) -> Answer
     requires { Arrays sizes.now codes.now floats.now task.now }
-    ensures number { number_of result ≡ one_block_stored (lent sizes) (lent codes) has_goals started (lent block) (length (lent slopes)) (length (lent record_joints)) (length (lent record_links)) (length (lent record_poses)) }
-    ensures value { (answer_value result ≡ value_if (number_of result) (value_stored (lent sizes) (lent codes) (lent floats) (lent task) picks (lent block))) × (result ≡ answer_of (number_of result) (answer_value result)) }
-    ensures block { block.new ≡ lent block }
-    ensures slopes { FrontIfTaken (number_of result) slopes (gradient_stored (lent sizes) (lent codes) (lent floats) (lent task) picks (lent block)) }
-    ensures record { RecordStored (number_of result) record_joints record_links record_poses (lent sizes) (lent codes) (lent floats) (lent block) }
+    ensures number { number_of result ≡ one_block_stored sizes.now codes.now has_goals started block.old (length slopes.old) (length record_joints.old) (length record_links.old) (length record_poses.old) }
+    ensures value { (answer_value result ≡ value_if (number_of result) (value_stored sizes.now codes.now floats.now task.now picks block.old)) × (result ≡ answer_of (number_of result) (answer_value result)) }
+    ensures block { block.new ≡ block.old }
+    ensures slopes { FrontIfTaken (number_of result) slopes (gradient_stored sizes.now codes.now floats.now task.now picks block.old) }
+    ensures record { RecordStored (number_of result) record_joints record_links record_poses sizes.now codes.now floats.now block.old }
 {
     let n = state::in_use(sizes, codes);
     let number = stored_task::state_refusal(n.loaded, has_goals, started);
@@ -67,13 +67,13 @@ pub fn gradient_one_block(
     record_links: &mut [u16],
     record_poses: &mut [f64],
 ) -> Answer
-    ensures number { number_of result ≡ one_block_number_of state (lent block) (length (lent slopes)) (length (lent record_joints)) (length (lent record_links)) (length (lent record_poses)) }
-    ensures value { (answer_value result ≡ value_if (number_of result) (objective_value_of state strict (lent block))) × (result ≡ answer_of (number_of result) (answer_value result)) }
-    ensures block { block.new ≡ lent block }
-    ensures slopes { FrontIfTaken (number_of result) slopes (gradient_slopes_of state strict (lent block)) }
+    ensures number { number_of result ≡ one_block_number_of state block.old (length slopes.old) (length record_joints.old) (length record_links.old) (length record_poses.old) }
+    ensures value { (answer_value result ≡ value_if (number_of result) (objective_value_of state strict block.old)) × (result ≡ answer_of (number_of result) (answer_value result)) }
+    ensures block { block.new ≡ block.old }
+    ensures slopes { FrontIfTaken (number_of result) slopes (gradient_slopes_of state strict block.old) }
     ensures record { FrontIfTaken (number_of result) record_joints (record_joints_of state)
         × FrontIfTaken (number_of result) record_links (record_links_of state)
-        × FrontIfTaken (number_of result) record_poses (record_poses_of state (lent block)) }
+        × FrontIfTaken (number_of result) record_poses (record_poses_of state block.old) }
 {
     let arms = state.arms;
     let sizes = arms.sizes;

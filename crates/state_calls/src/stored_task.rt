@@ -27,7 +27,7 @@ pub(crate) fn lay_task(
     task: &mut [f64],
 )
     requires { length task.old ≡ task_length }
-    ensures { task.new ≡ laid (apart_of kept (lent limits) (lent tools) party) (lent task) }
+    ensures { task.new ≡ laid (apart_of kept limits.now tools.now party) task.old }
 {
     let goals = party.goals;
     let history = party.history;
@@ -74,8 +74,8 @@ pub(crate) fn objective_on(
     joints: &[f64],
 ) -> Answer
     requires { Arrays sizes.now codes.now floats.now task.now }
-    ensures number { number_of result ≡ objective_stored (lent sizes) (lent codes) has_goals started (lent joints) }
-    ensures value { answer_value result ≡ value_if (number_of result) (value_stored (lent sizes) (lent codes) (lent floats) (lent task) picks (lent joints)) }
+    ensures number { number_of result ≡ objective_stored sizes.now codes.now has_goals started joints.now }
+    ensures value { answer_value result ≡ value_if (number_of result) (value_stored sizes.now codes.now floats.now task.now picks joints.now) }
     ensures case { result ≡ answer_of (number_of result) (answer_value result) }
 {
     let n = state::in_use(sizes, codes);
@@ -110,11 +110,11 @@ pub(crate) fn gradient_on(
     slopes: &mut [f64],
 ) -> Answer
     requires { Arrays sizes.now codes.now floats.now task.now }
-    ensures number { number_of result ≡ slopes_stored (lent sizes) (lent codes) has_goals started (lent joints) (length (lent scratch)) (length (lent slopes)) }
-    ensures value { answer_value result ≡ value_if (number_of result) (value_stored (lent sizes) (lent codes) (lent floats) (lent task) picks (lent joints)) }
+    ensures number { number_of result ≡ slopes_stored sizes.now codes.now has_goals started joints.now (length scratch.old) (length slopes.old) }
+    ensures value { answer_value result ≡ value_if (number_of result) (value_stored sizes.now codes.now floats.now task.now picks joints.now) }
     ensures case { result ≡ answer_of (number_of result) (answer_value result) }
-    ensures scratch { FrontIfTaken (number_of result) scratch (lent joints) }
-    ensures slopes { FrontIfTaken (number_of result) slopes (slopes_of rule (given_stored (lent sizes) (lent codes) (lent task) picks) (floats_used (lent sizes) (lent floats)) (lent joints)) }
+    ensures scratch { FrontIfTaken (number_of result) scratch joints.now }
+    ensures slopes { FrontIfTaken (number_of result) slopes (slopes_of rule (given_stored sizes.now codes.now task.now picks) (floats_used sizes.now floats.now) joints.now) }
 {
     let n = state::in_use(sizes, codes);
     let number = state_refusal(n.loaded, has_goals, started);

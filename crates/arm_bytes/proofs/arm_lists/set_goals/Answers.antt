@@ -16,9 +16,6 @@ bounds-sizes-0 c =
     let s = (load-passed _ _ _ _ (sym c.load_refusal-load.ensures ∙ c.if-load-ne0.false)).0.sized in
     omega (arith, s.long, s.some)
 
-pub overflow_cast-sizes : goal.overflow_cast-sizes
-overflow_cast-sizes c = omega (arith, c.type_inv.sizes 0)
-
 pub returns : goal.returns
 unfolding set_goals_number
 returns c = sym (first-zero _ _ (sym c.load_refusal-load.ensures ∙ c.if-load-ne0.false) ∙ sym c.goals_refusal.ensures)

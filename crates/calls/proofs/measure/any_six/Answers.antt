@@ -15,9 +15,6 @@ pub loop-c-init : goal.loop-c-init
 unfolding chain_start
 loop-c-init c = (omega arith, sym (every-none _), refl, sym (joint-zero _))
 
-pub overflow_cast-link : goal.overflow_cast-link
-overflow_cast-link c = omega (arith, c.type_inv.counts c.loop-c.c)
-
 pub overflow_add-link : goal.overflow_add-link
 overflow_add-link c =
     let inside : c.loop-c.link + get_or c.args.counts.now c.loop-c.c 0 ≤ length c.args.codes.now = links-inside c.args.counts.now c.args.codes.now c.loop-c.c c.loop-c.link c.loop-c.invariant.2 c.loop-c-test.true c.requires.0 in

@@ -29,8 +29,8 @@ returns-then-number-ne0 c =
 pub gradient-v-requires : goal.gradient-v-requires
 gradient-v-requires c =
     let goes_on : c.one_block_refusal-number.result ≡ 0 = omega (arith, c.if-number-ne0.false) in
-    let number : one_block_refusal c.args.counts.now c.args.codes.now c.args.block.now (length c.args.slopes.now) (length c.args.record-joints.now) (length c.args.record-links.now) (length c.args.record-poses.now) ≡ 0 = sym c.one_block_refusal-number.ensures ∙ goes_on in
-    let p = one-block-passed _ _ _ c.args.slopes.now c.args.record-joints.now c.args.record-links.now c.args.record-poses.now (number) in record {
+    let number : one_block_refusal c.args.counts.now c.args.codes.now c.args.block.now (length c.args.slopes.now) (length c.args.record_joints.now) (length c.args.record_links.now) (length c.args.record_poses.now) ≡ 0 = sym c.one_block_refusal-number.ensures ∙ goes_on in
+    let p = one-block-passed _ _ _ c.args.slopes.now c.args.record_joints.now c.args.record_links.now c.args.record_poses.now (number) in record {
       ready = (ready_of _ _ _ _ _ c.requires p.0, p.1);
       room = p.2;
     }
@@ -38,7 +38,7 @@ gradient-v-requires c =
 pub returns : goal.returns
 returns c =
     let goes_on : c.one_block_refusal-number.result ≡ 0 = omega (arith, c.if-number-ne0.false) in
-    let number : one_block_refusal c.args.counts.now c.args.codes.now c.args.block.now (length c.args.slopes.now) (length c.args.record-joints.now) (length c.args.record-links.now) (length c.args.record-poses.now) ≡ 0 = sym c.one_block_refusal-number.ensures ∙ goes_on in
+    let number : one_block_refusal c.args.counts.now c.args.codes.now c.args.block.now (length c.args.slopes.now) (length c.args.record_joints.now) (length c.args.record_links.now) (length c.args.record_poses.now) ≡ 0 = sym c.one_block_refusal-number.ensures ∙ goes_on in
     let v = c.gradient-v in record {
       number = sym (number);
       value = (v.ensures.value ∙ sym (value_taken 0 _ refl), sym (answer-taken v.result));

@@ -44,8 +44,8 @@ returns c =
     let hs = f.new.out in
     let ks = a.kinds.now in
     let n = as_many G gs x ks c.requires.known.kinds in
-    let at : hs ≡ splice a.f-hs.now 0 (losses_at G gs (raised_by (step_of R) x j)) = f.ensures ∙ ap (λ (v : Float). splice a.f-hs.now 0 (losses_at G gs (raised_by v x j))) h.ensures in record {
-      value = c.slope.ensures ∙ ap (λ (ws : List Float). slope_by R ws ks a.asked.f_0 a.f-0s.now hs) c.weights.ensures.0
-          ∙ slope-made G gs x ks c.requires.known.kinds R j a.asked.f_0 a.f-0s.now hs c.requires.known.value c.requires.known.losses (omega (arith, c.requires.known.again, f.auto.out)) (losses-front G gs (raised_by (step_of R) x j) a.f-hs.now hs (length ks) n at);
+    let at : hs ≡ splice a.f_hs.now 0 (losses_at G gs (raised_by (step_of R) x j)) = f.ensures ∙ ap (λ (v : Float). splice a.f_hs.now 0 (losses_at G gs (raised_by v x j))) h.ensures in record {
+      value = c.slope.ensures ∙ ap (λ (ws : List Float). slope_by R ws ks a.asked.f_0 a.f_0s.now hs) c.weights.ensures.0
+          ∙ slope-made G gs x ks c.requires.known.kinds R j a.asked.f_0 a.f_0s.now hs c.requires.known.value c.requires.known.losses (omega (arith, c.requires.known.again, f.auto.out)) (losses-front G gs (raised_by (step_of R) x j) a.f_hs.now hs (length ks) n at);
       scratch_unchanged = put_back h.result x j;
     }

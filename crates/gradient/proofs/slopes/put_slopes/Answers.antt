@@ -15,12 +15,12 @@ pub loop-i-preserved : goal.loop-i-preserved
 loop-i-preserved c =
     let l = c.loop-i in
     let a = c.args in
-    let fs = a.f-0s.now in
-    let hs = a.f-hs.now in (
+    let fs = a.f_0s.now in
+    let hs = a.f_hs.now in (
       omega arith,
       simp length-set l.invariant.1,
-      listed-turn (slope_between fs hs) hs l.f-hs l.i _ (omega (arith, c.requires)) l.invariant.1 l.invariant.2
-          (slope-made fs hs l.f-hs l.i (loss-left (slope_between fs hs) hs l.f-hs l.i (omega (arith, c.requires)) l.invariant.2)),
+      listed-turn (slope_between fs hs) hs l.f_hs l.i _ (omega (arith, c.requires)) l.invariant.1 l.invariant.2
+          (slope-made fs hs l.f_hs l.i (loss-left (slope_between fs hs) hs l.f_hs l.i (omega (arith, c.requires)) l.invariant.2)),
     )
 
 pub shape_of-f_hs : goal.shape_of-f_hs
@@ -31,4 +31,4 @@ returns c =
     let l = c.loop-i in
     let a = c.args in
     let e : l.i ≡ a.n = omega arith in
-    l.invariant.2 ∙ ap (λ (k : ℕ). splice a.f-hs.now 0 (listed (slope_between a.f-0s.now a.f-hs.now) k)) e
+    l.invariant.2 ∙ ap (λ (k : ℕ). splice a.f_hs.now 0 (listed (slope_between a.f_0s.now a.f_hs.now) k)) e

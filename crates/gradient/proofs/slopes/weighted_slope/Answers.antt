@@ -9,4 +9,4 @@ returns c =
     let p = c.put_slopes in
     let a = c.args in
     c.weighted_sum.ensures
-    ∙ slopes-sum a.weights.now a.kinds.now (slope_between a.f-0s.now a.f-hs.now) a.f-hs.now p.new.f_hs c.requires.1 p.ensures
+    ∙ slopes-sum a.weights.now a.kinds.now (slope_between a.f_0s.now a.f_hs.now) a.f_hs.now p.new.f_hs c.requires.1 p.ensures

@@ -18,9 +18,6 @@ bounds-sizes-0 c =
     let shape : Shape c.args.sizes.now c.args.codes.now (length c.args.floats.now) = (load-passed _ _ _ _ (sym c.load_refusal-load.ensures ∙ c.if-load-ne0.false)).0 in
     let s = (shape).sized in omega (arith, s.long, s.some)
 
-pub overflow_cast-sizes : goal.overflow_cast-sizes
-overflow_cast-sizes c = omega (arith, c.type_inv.sizes 0)
-
 pub returns : goal.returns
 unfolding task_number
 returns c =

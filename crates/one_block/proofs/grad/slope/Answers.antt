@@ -19,12 +19,12 @@ use Rattle.one_block.proofs.grad.slope.Goals as goal
 
 pub slice_bounds-copy_floats-end : goal.slice_bounds-copy_floats-end
 slice_bounds-copy_floats-end c =
-    let front : length (take (length c.args.kinds.now) c.args.f-0s.now) ≡ length c.args.kinds.now = length-take-le (length c.args.kinds.now) c.args.f-0s.now (omega (arith, c.requires.kinds_value)) in
+    let front : length (take (length c.args.kinds.now) c.args.f_0s.now) ≡ length c.args.kinds.now = length-take-le (length c.args.kinds.now) c.args.f_0s.now (omega (arith, c.requires.kinds_value)) in
     sym (front)
 
 pub copy_floats-requires : goal.copy_floats-requires
 copy_floats-requires c =
-    let front : length (take (length c.args.kinds.now) c.args.f-0s.now) ≡ length c.args.kinds.now = length-take-le (length c.args.kinds.now) c.args.f-0s.now (omega (arith, c.requires.kinds_value)) in
+    let front : length (take (length c.args.kinds.now) c.args.f_0s.now) ≡ length c.args.kinds.now = length-take-le (length c.args.kinds.now) c.args.f_0s.now (omega (arith, c.requires.kinds_value)) in
     omega (arith, front, c.requires.kinds_value)
 
 pub put_losses-requires : goal.put_losses-requires
@@ -47,7 +47,7 @@ put_losses-requires c =
     let p = c.requires.kinds_value in record {
       lent = subst (λ (t : List Float). Lent ns cs T x fs t w.from w.to) (sym (rest)) c.requires.lent;
       cached = subst (λ (t : List Float). Cached G (view_of fs t w.from w.to) x w.from w.to w.joint cur) (sym (rest))
-          (cached-front G view x w.from w.to w.joint (length a.kinds.now) a.f-0s.now _ cur c.requires.cached (ap length p.0 ∙ kinds-length a.picks ns cs) p.2 p.1 f.ensures);
+          (cached-front G view x w.from w.to w.joint (length a.kinds.now) a.f_0s.now _ cur c.requires.cached (ap length p.0 ∙ kinds-length a.picks ns cs) p.2 p.1 f.ensures);
     }
 
 pub returns : goal.returns
@@ -68,5 +68,5 @@ returns c =
     let l = c.put_losses in
     let cur = c.copy_floats.new.dst in
     c.weighted_slope.ensures
-    ∙ slope-made G view x a.f-0s.now cur l.new.out _ a.kinds.now c.weights.ensures.0 c.requires.kinds_value.0
+    ∙ slope-made G view x a.f_0s.now cur l.new.out _ a.kinds.now c.weights.ensures.0 c.requires.kinds_value.0
     (l.ensures ∙ ap (λ (t : List Float). splice cur 0 (losses_of G (view_of fs t w.from w.to) x)) (rest))

@@ -25,43 +25,31 @@ pub entries-requires : goal.entries-requires
 entries-requires c =
     let sheet : SheetLists = sheet_with c.args.sizes.now c.args.codes.now c.args.floats.now c.args.limits.now in
     let block : List Float = c.args.block.now in
-    let fitted : Fitted (sheet) (task_with c.args.goals.now c.args.history.now c.args.weights.now c.args.tools.now) (block) (length c.args.value.now) (length c.args.slopes.now) (length c.args.record-joints.now) (length c.args.record-links.now) (length c.args.record-poses.now) = one-block-fitted (sheet) _ _ _ _ _ _ _ (sym c.one_block_number-number.ensures ∙ c.if-number-ne0.false) in
+    let fitted : Fitted (sheet) (task_with c.args.goals.now c.args.history.now c.args.weights.now c.args.tools.now) (block) (length c.args.value.now) (length c.args.slopes.now) (length c.args.record_joints.now) (length c.args.record_links.now) (length c.args.record_poses.now) = one-block-fitted (sheet) _ _ _ _ _ _ _ (sym c.one_block_number-number.ensures ∙ c.if-number-ne0.false) in
     task-counted (sheet) _ _ _ (fitted).accepted.0
 
 pub put_one_block-requires : goal.put_one_block-requires
 put_one_block-requires c =
     let sheet : SheetLists = sheet_with c.args.sizes.now c.args.codes.now c.args.floats.now c.args.limits.now in
     let block : List Float = c.args.block.now in
-    let fitted : Fitted (sheet) (task_with c.args.goals.now c.args.history.now c.args.weights.now c.args.tools.now) (block) (length c.args.value.now) (length c.args.slopes.now) (length c.args.record-joints.now) (length c.args.record-links.now) (length c.args.record-poses.now) = one-block-fitted (sheet) _ _ _ _ _ _ _ (sym c.one_block_number-number.ensures ∙ c.if-number-ne0.false) in
+    let fitted : Fitted (sheet) (task_with c.args.goals.now c.args.history.now c.args.weights.now c.args.tools.now) (block) (length c.args.value.now) (length c.args.slopes.now) (length c.args.record_joints.now) (length c.args.record_links.now) (length c.args.record_poses.now) = one-block-fitted (sheet) _ _ _ _ _ _ _ (sym c.one_block_number-number.ensures ∙ c.if-number-ne0.false) in
     record {
       fitted = fitted;
       limits_in_bounds = omega (arith, c.if-entries-le80.true, c.entries.ensures);
     }
 
 pub returns-then-entries-le80 : goal.returns-then-entries-le80
-returns-then-entries-le80 c =
-    record {
-      number = sym c.if-number-ne0.false ∙ c.one_block_number-number.ensures;
-      value = c.put_one_block.ensures.value_after;
-      slopes = c.put_one_block.ensures.slopes_after;
-      «record» = c.put_one_block.ensures.record_written;
-    }
+returns-then-entries-le80 c = (sym c.if-number-ne0.false ∙ c.one_block_number-number.ensures, c.put_one_block.ensures)
 
 pub put_one_block-requires-2 : goal.put_one_block-requires-2
 put_one_block-requires-2 c =
     let sheet : SheetLists = sheet_with c.args.sizes.now c.args.codes.now c.args.floats.now c.args.limits.now in
     let block : List Float = c.args.block.now in
-    let fitted : Fitted (sheet) (task_with c.args.goals.now c.args.history.now c.args.weights.now c.args.tools.now) (block) (length c.args.value.now) (length c.args.slopes.now) (length c.args.record-joints.now) (length c.args.record-links.now) (length c.args.record-poses.now) = one-block-fitted (sheet) _ _ _ _ _ _ _ (sym c.one_block_number-number.ensures ∙ c.if-number-ne0.false) in
+    let fitted : Fitted (sheet) (task_with c.args.goals.now c.args.history.now c.args.weights.now c.args.tools.now) (block) (length c.args.value.now) (length c.args.slopes.now) (length c.args.record_joints.now) (length c.args.record_links.now) (length c.args.record_poses.now) = one-block-fitted (sheet) _ _ _ _ _ _ _ (sym c.one_block_number-number.ensures ∙ c.if-number-ne0.false) in
     let t = fitted in record {
       fitted = t;
       limits_in_bounds = omega (arith, t.entries);
     }
 
 pub returns : goal.returns
-returns c =
-    record {
-      number = sym c.if-number-ne0.false ∙ c.one_block_number-number.ensures;
-      value = c.put_one_block-2.ensures.value_after;
-      slopes = c.put_one_block-2.ensures.slopes_after;
-      «record» = c.put_one_block-2.ensures.record_written;
-    }
+returns c = (sym c.if-number-ne0.false ∙ c.one_block_number-number.ensures, c.put_one_block-2.ensures)

@@ -60,8 +60,8 @@ returns c =
       block_unchanged = c.gradient.ensures.block_after;
       slopes_after = c.gradient.ensures.grad_after ∙ ap (λ g'. splice a.slopes.now 0 (gradient_of g' a.floats.now (block))) g;
       record_held = (
-        c.gradient.ensures.joints_after.0 ∙ ap (λ (ns : List ℕ). splice a.record-joints.now 0 (record_joints ns cs)) l,
-        c.gradient.ensures.joints_after.1 ∙ ap (λ (ns : List ℕ). splice a.record-links.now 0 (record_links ns cs)) l,
-        c.gradient.ensures.frames_after ∙ ap (λ (ns : List ℕ). splice a.record-poses.now 0 (record_poses ns cs a.floats.now (block))) l,
+        c.gradient.ensures.joints_after.0 ∙ ap (λ (ns : List ℕ). splice a.record_joints.now 0 (record_joints ns cs)) l,
+        c.gradient.ensures.joints_after.1 ∙ ap (λ (ns : List ℕ). splice a.record_links.now 0 (record_links ns cs)) l,
+        c.gradient.ensures.frames_after ∙ ap (λ (ns : List ℕ). splice a.record_poses.now 0 (record_poses ns cs a.floats.now (block))) l,
       );
     }

@@ -101,9 +101,9 @@ returns c =
       (
         p.1 ∙ ap (λ (y : List Float). splice a.slopes.now 0 (bytes_of y)) (front _ _ _ _ g.1.1.0 l) ∙ sym (taken 0 _ _ refl),
         (
-          q.0 ∙ ap (λ (y : List ℕ). splice a.record-joints.now 0 (bytes_of_numbers y)) (front _ _ (record_joints_in (sheet s)) _ g.1.1.1.0 (joints-in-length (sheet s) ∙ sym m)) ∙ sym (taken 0 _ _ refl),
-          q.1.0 ∙ ap (λ (y : List ℕ). splice a.record-links.now 0 (bytes_of_numbers y)) (front _ _ (record_links_in (sheet s)) _ g.1.1.1.1 (links-in-length (sheet s) ∙ sym m)) ∙ sym (taken 0 _ _ refl),
-          q.1.1 ∙ ap (λ (y : List Float). splice a.record-poses.now 0 (bytes_of y))
+          q.0 ∙ ap (λ (y : List ℕ). splice a.record_joints.now 0 (bytes_of_numbers y)) (front _ _ (record_joints_in (sheet s)) _ g.1.1.1.0 (joints-in-length (sheet s) ∙ sym m)) ∙ sym (taken 0 _ _ refl),
+          q.1.0 ∙ ap (λ (y : List ℕ). splice a.record_links.now 0 (bytes_of_numbers y)) (front _ _ (record_links_in (sheet s)) _ g.1.1.1.1 (links-in-length (sheet s) ∙ sym m)) ∙ sym (taken 0 _ _ refl),
+          q.1.1 ∙ ap (λ (y : List Float). splice a.record_poses.now 0 (bytes_of y))
               (front _ _ (record_poses_in (sheet s) (block s)) _ g.1.1.1.2 (poses-in-length (sheet s) (block s) ∙ ap (λ (k : ℕ). 7 * k) (sym m))) ∙ sym (taken 0 _ _ refl),
         ),
       ),

@@ -19,15 +19,16 @@ returns c =
     let d = c.decode-t.ensures in
     let t = same-four task_with d.of-goals.held d.of-history.held c.decode-nw.ensures.held c.decode-tools.ensures in
     let q = c.decode-picks.ensures in
-    let x = d.of-joints.held in record {
+    let x = d.of-joints.held in
+    let r = w.ensures.record in record {
       number = w.ensures.number
           ∙ same-three (λ s' t' x'. one_block_number s' t' x' (room_in (length a.value.now)) (room_in (length a.slopes.now))
-          (number_room_in (length a.record-joints.now)) (number_room_in (length a.record-links.now)) (room_in (length a.record-poses.now))) z t x;
+          (number_room_in (length a.record_joints.now)) (number_room_in (length a.record_links.now)) (room_in (length a.record_poses.now))) z t x;
       value = w.ensures.value ∙ same-four (λ s' t' p' x'. if_taken w.result a.value.now (splice a.value.now 0 (bytes_of (objective_value s' t' p' x')))) z t q x;
       slopes = w.ensures.slopes ∙ same-four (λ s' t' p' x'. if_taken w.result a.slopes.now (splice a.slopes.now 0 (bytes_of (gradient_slopes s' t' p' x')))) z t q x;
       «record» = (
-        w.ensures.record.0 ∙ ap (λ (s' : SheetLists). if_taken w.result a.record-joints.now (splice a.record-joints.now 0 (bytes_of_numbers (record_joints_in s')))) z,
-        w.ensures.record.1 ∙ ap (λ (s' : SheetLists). if_taken w.result a.record-links.now (splice a.record-links.now 0 (bytes_of_numbers (record_links_in s')))) z,
-        w.ensures.record.2 ∙ same-two (λ s' x'. if_taken w.result a.record-poses.now (splice a.record-poses.now 0 (bytes_of (record_poses_in s' x')))) z x,
+        r.0 ∙ ap (λ (s' : SheetLists). if_taken w.result a.record_joints.now (splice a.record_joints.now 0 (bytes_of_numbers (record_joints_in s')))) z,
+        r.1 ∙ ap (λ (s' : SheetLists). if_taken w.result a.record_links.now (splice a.record_links.now 0 (bytes_of_numbers (record_links_in s')))) z,
+        r.2 ∙ same-two (λ s' x'. if_taken w.result a.record_poses.now (splice a.record_poses.now 0 (bytes_of (record_poses_in s' x')))) z x,
       );
     }

@@ -33,11 +33,12 @@ returns c =
     let st = c.args.state in
     let t = c.strict-strict.ensures in
     let x = c.requires.at_bound.1 in
-    let n = c.gradient_one_block-answer.ensures.number ∙ same-five (one_block_number_of st) x (ap length c.requires.slopes_value.0) (ap length c.requires.slopes_value.1) (ap length c.requires.slopes_value.2) (ap length c.requires.slopes_value.3) in
+    let o = c.requires.slopes_value in
+    let n = c.gradient_one_block-answer.ensures.number ∙ same-five (one_block_number_of st) x (ap length o.0) (ap length o.1) (ap length o.2) (ap length o.3) in
     let value = c.answered-a.ensures
     ∙ same_answer _ _ objective_outputs n (ap (λ (v : Float). bytes_of (v ∷ []) ∷ []) (c.gradient_one_block-answer.ensures.value.0 ∙ same-two value_if n (same-two (objective_value_of st) t x))) in
     let second = agrees_on _ _ _ objective_outputs (_ ∷ []) value (ap bytes_of (c.gradient_one_block-answer.ensures.block ∙ x)) c.floats-b.ensures in
-    let third = agrees_on _ _ _ objective_outputs (_ ∷ _ ∷ []) second (ap bytes_of (c.gradient_one_block-answer.ensures.slopes ∙ left-same n c.requires.slopes_value.0 (same-two (gradient_slopes_of st) t x))) c.floats-c.ensures in
-    let fourth = agrees_on _ _ _ objective_outputs (_ ∷ _ ∷ _ ∷ []) third (ap bytes_of_numbers (c.gradient_one_block-answer.ensures.record.0 ∙ left-same {xs = record_joints_of st} n c.requires.slopes_value.1 refl)) c.numbers-d.ensures in
-    let fifth = agrees_on _ _ _ objective_outputs (_ ∷ _ ∷ _ ∷ _ ∷ []) fourth (ap bytes_of_numbers (c.gradient_one_block-answer.ensures.record.1 ∙ left-same {xs = record_links_of st} n c.requires.slopes_value.2 refl)) c.numbers-e.ensures in
-    agrees_on _ _ _ objective_outputs (_ ∷ _ ∷ _ ∷ _ ∷ _ ∷ []) fifth (ap bytes_of (c.gradient_one_block-answer.ensures.record.2 ∙ left-same n c.requires.slopes_value.3 (ap (record_poses_of st) x))) c.floats.ensures
+    let third = agrees_on _ _ _ objective_outputs (_ ∷ _ ∷ []) second (ap bytes_of (c.gradient_one_block-answer.ensures.slopes ∙ left-same n o.0 (same-two (gradient_slopes_of st) t x))) c.floats-c.ensures in
+    let fourth = agrees_on _ _ _ objective_outputs (_ ∷ _ ∷ _ ∷ []) third (ap bytes_of_numbers (c.gradient_one_block-answer.ensures.record.0 ∙ left-same {xs = record_joints_of st} n o.1 refl)) c.numbers-d.ensures in
+    let fifth = agrees_on _ _ _ objective_outputs (_ ∷ _ ∷ _ ∷ _ ∷ []) fourth (ap bytes_of_numbers (c.gradient_one_block-answer.ensures.record.1 ∙ left-same {xs = record_links_of st} n o.2 refl)) c.numbers-e.ensures in
+    agrees_on _ _ _ objective_outputs (_ ∷ _ ∷ _ ∷ _ ∷ _ ∷ []) fifth (ap bytes_of (c.gradient_one_block-answer.ensures.record.2 ∙ left-same n o.3 (ap (record_poses_of st) x))) c.floats.ensures

@@ -67,10 +67,11 @@ returns c =
     let a = c.args in
     let x = a.block.now in
     let m = c.gradient_one_block in
-    let n = c.in_use-n.result in record {
+    let n = c.in_use-n.result in
+    let r = m.ensures.record in record {
       number = m.ensures.number
           ∙ parts_are a.sizes.now a.codes.now a.floats.now n (U)
-          (λ ns ks gs. one_block_refusal ns ks x (length a.slopes.now) (length a.record-joints.now) (length a.record-links.now) (length a.record-poses.now))
+          (λ ns ks gs. one_block_refusal ns ks x (length a.slopes.now) (length a.record_joints.now) (length a.record_links.now) (length a.record_poses.now))
           ∙ sym (state-passed _ _ _ c.in_use-n.ensures _ _ _ c.state_refusal-number.ensures _ c.if-number-ne0.false);
       value = (
         m.ensures.value.0
@@ -84,14 +85,14 @@ returns c =
           (λ ns ks gs. if_taken (number_of m.result) a.slopes.now (splice a.slopes.now 0
           (gradient_of (given_of ns ks a.task.now a.picks) gs x)));
       «record» = (
-        m.ensures.record.0
+        r.0
             ∙ parts_are a.sizes.now a.codes.now a.floats.now n (U)
-            (λ ns ks gs. if_taken (number_of m.result) a.record-joints.now (splice a.record-joints.now 0 (record_joints ns ks))),
-        m.ensures.record.1
+            (λ ns ks gs. if_taken (number_of m.result) a.record_joints.now (splice a.record_joints.now 0 (record_joints ns ks))),
+        r.1
             ∙ parts_are a.sizes.now a.codes.now a.floats.now n (U)
-            (λ ns ks gs. if_taken (number_of m.result) a.record-links.now (splice a.record-links.now 0 (record_links ns ks))),
-        m.ensures.record.2
+            (λ ns ks gs. if_taken (number_of m.result) a.record_links.now (splice a.record_links.now 0 (record_links ns ks))),
+        r.2
             ∙ parts_are a.sizes.now a.codes.now a.floats.now n (U)
-            (λ ns ks gs. if_taken (number_of m.result) a.record-poses.now (splice a.record-poses.now 0 (record_poses ns ks gs x))),
+            (λ ns ks gs. if_taken (number_of m.result) a.record_poses.now (splice a.record_poses.now 0 (record_poses ns ks gs x))),
       );
     }

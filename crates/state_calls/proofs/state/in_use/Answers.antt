@@ -11,9 +11,6 @@ use Rattle.state_calls.specs.State.{sizes_used, links_used, codes_used, have_she
 use borrow.Author.Rules.{rules}
 use Rattle.state_calls.proofs.state.in_use.Goals as goal
 
-pub overflow_cast-chains : goal.overflow_cast-chains
-overflow_cast-chains c = omega (arith, c.type_inv.sizes 0)
-
 pub returns-then-chains-gt4 : goal.returns-then-chains-gt4
 unfolding counts_of have_sheet
 returns-then-chains-gt4 c = rw (lt-ltb 4 _ c.if-chains-gt4.true)
@@ -33,7 +30,7 @@ pub slice_bounds-shape_refusal-end-2 : goal.slice_bounds-shape_refusal-end-2
 slice_bounds-shape_refusal-end-2 c = sym (length-take-le c.total_links-links.result c.args.codes.now (omega (arith, c.requires, c.if-links-gt64.false)))
 
 pub returns-then-shape_refusal-ne0 : goal.returns-then-shape_refusal-ne0
-unfolding counts_of have_sheet sizes_used codes_used links_used
+unfolding counts_of have_sheet links_used sizes_used codes_used
 returns-then-shape_refusal-ne0 c =
     let links : c.total_links-links.result ≡ total (links_used c.args.sizes.now) = let ss = c.args.sizes.now in
     let e : get_or ss 0 0 + 1 - 1 ≡ get_or ss 0 0 = omega arith in
@@ -43,7 +40,7 @@ returns-then-shape_refusal-ne0 c =
     rw (le-ltb 4 _ c.if-chains-gt4.false, le-ltb 64 (total (links_used c.args.sizes.now)) (omega (arith, links, c.if-links-gt64.false)), ne_eqb _ 0 (λ z. c.if-shape_refusal-ne0.true (shape ∙ z)))
 
 pub returns : goal.returns
-unfolding counts_of have_sheet sizes_used codes_used links_used
+unfolding counts_of have_sheet links_used sizes_used codes_used
 returns c =
     let links : c.total_links-links.result ≡ total (links_used c.args.sizes.now) = let ss = c.args.sizes.now in
     let e : get_or ss 0 0 + 1 - 1 ≡ get_or ss 0 0 = omega arith in

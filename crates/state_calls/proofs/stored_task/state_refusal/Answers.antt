@@ -11,12 +11,12 @@ returns-then-not-loaded c = rw (not-true c.args.loaded c.if-not-loaded.true) ref
 
 pub returns-then-not-has_goals : goal.returns-then-not-has_goals
 unfolding state_number
-returns-then-not-has_goals c = rw (not-false c.args.loaded c.if-not-loaded.false, not-true c.args.has-goals c.if-not-has_goals.true) refl
+returns-then-not-has_goals c = rw (not-false c.args.loaded c.if-not-loaded.false, not-true c.args.has_goals c.if-not-has_goals.true) refl
 
 pub returns-then-not-started : goal.returns-then-not-started
 unfolding state_number
-returns-then-not-started c = rw (not-false c.args.loaded c.if-not-loaded.false, not-false c.args.has-goals c.if-not-has_goals.false, not-true c.args.started c.if-not-started.true) refl
+returns-then-not-started c = rw (not-false c.args.loaded c.if-not-loaded.false, not-false c.args.has_goals c.if-not-has_goals.false, not-true c.args.started c.if-not-started.true) refl
 
 pub returns : goal.returns
 unfolding state_number
-returns c = rw (not-false c.args.loaded c.if-not-loaded.false, not-false c.args.has-goals c.if-not-has_goals.false, not-false c.args.started c.if-not-started.false) refl
+returns c = rw (not-false c.args.loaded c.if-not-loaded.false, not-false c.args.has_goals c.if-not-has_goals.false, not-false c.args.started c.if-not-started.false) refl

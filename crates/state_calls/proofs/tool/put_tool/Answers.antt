@@ -15,11 +15,6 @@ put-requires c =
     let stored : length (set c.args.tools.now c.args.at one) ≡ length c.args.tools.now = length-set c.args.tools.now c.args.at one in
     omega (arith, stored, c.requires)
 
-pub shape_of-tools : goal.shape_of-tools
-shape_of-tools c =
-    let stored : length (set c.args.tools.now c.args.at one) ≡ length c.args.tools.now = length-set c.args.tools.now c.args.at one in
-    omega (arith, stored, c.put.auto)
-
 pub returns : goal.returns
 returns c =
     let a = c.args in
