@@ -8,7 +8,7 @@ use borrow.Author.Rules.{rules}
 use Rattle.sequences.proofs.agree.numbers.Goals as goal
 
 pub returns-then-not-agreed : goal.returns-then-not-agreed
-returns-then-not-agreed c = rw (not-true c.args.agreed c.if-not-agreed.true)
+returns-then-not-agreed c = rw c.if-not-agreed.true
 
 pub returns : goal.returns
-returns c = rw (not-false c.args.agreed c.if-not-agreed.false) (c.same_numbers.ensures ∙ ap (same_bytes (bytes_of_numbers c.args.ns.now)) c.list.ensures.0)
+returns c = rw c.if-not-agreed.false (c.same_numbers.ensures ∙ ap (same_bytes (bytes_of_numbers c.args.ns.now)) c.list.ensures.0)

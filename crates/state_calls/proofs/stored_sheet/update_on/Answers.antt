@@ -13,8 +13,8 @@ pub returns-then-not-started : goal.returns-then-not-started
 unfolding update_stored
 returns-then-not-started c =
     let u = used _ _ _ c.in_use-n.ensures c.if-not-n.false in
-    rw (not-true c.args.started c.if-not-started.true) (sym (arms-there _ _ 22 u.have))
+    rw c.if-not-started.true (sym (arms-there _ _ 22 u.have))
 
 pub returns : goal.returns
 unfolding update_stored block_stored
-returns c = rw (not-false c.args.started c.if-not-started.false) c.block_on.ensures
+returns c = rw c.if-not-started.false c.block_on.ensures

@@ -7,16 +7,16 @@ use Rattle.state_calls.proofs.stored_task.state_refusal.Goals as goal
 
 pub returns-then-not-loaded : goal.returns-then-not-loaded
 unfolding state_number
-returns-then-not-loaded c = rw (not-true c.args.loaded c.if-not-loaded.true) refl
+returns-then-not-loaded c = rw c.if-not-loaded.true refl
 
 pub returns-then-not-has_goals : goal.returns-then-not-has_goals
 unfolding state_number
-returns-then-not-has_goals c = rw (not-false c.args.loaded c.if-not-loaded.false, not-true c.args.has_goals c.if-not-has_goals.true) refl
+returns-then-not-has_goals c = rw (c.if-not-loaded.false, c.if-not-has_goals.true) refl
 
 pub returns-then-not-started : goal.returns-then-not-started
 unfolding state_number
-returns-then-not-started c = rw (not-false c.args.loaded c.if-not-loaded.false, not-false c.args.has_goals c.if-not-has_goals.false, not-true c.args.started c.if-not-started.true) refl
+returns-then-not-started c = rw (c.if-not-loaded.false, c.if-not-has_goals.false, c.if-not-started.true) refl
 
 pub returns : goal.returns
 unfolding state_number
-returns c = rw (not-false c.args.loaded c.if-not-loaded.false, not-false c.args.has_goals c.if-not-has_goals.false, not-false c.args.started c.if-not-started.false) refl
+returns c = rw (c.if-not-loaded.false, c.if-not-has_goals.false, c.if-not-started.false) refl
