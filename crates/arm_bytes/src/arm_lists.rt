@@ -150,7 +150,7 @@ pub fn update(
     out: &mut [u8],
 ) -> u16
     ensures number { result ≡ update_number (sheet_of sizes codes floats limits) history.now joints.now (room_of out) }
-    ensures history { out.new ≡ output_of result out (updated_blocks history.now joints.now) }
+    ensures new_history { out.new ≡ output_of result out (updated_blocks history.now joints.now) }
 {
     let load = load::load_refusal(sizes, codes, floats, limits);
     if load != 0 {

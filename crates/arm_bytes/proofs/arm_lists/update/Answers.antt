@@ -22,7 +22,7 @@ unfolding update_number
 returns-then-load-ne0 c =
     let e = c.load_refusal-load.ensures in record {
       number = sym (first_some _ _ (λ z. c.if-load-ne0.true (e ∙ z)) ∙ sym e);
-      history = sym (refused c.load_refusal-load.result _ _ c.if-load-ne0.true);
+      new_history = sym (refused c.load_refusal-load.result _ _ c.if-load-ne0.true);
     }
 
 pub returns-then-answer-ne0 : goal.returns-then-answer-ne0
@@ -35,7 +35,7 @@ returns-then-answer-ne0 c =
     let stopped : c.first_of-answer.result ≡ 0 → ⊥ = λ z. omega (arith, c.if-answer-ne0.true, z) in
     record {
       number = number;
-      history = sym (refused c.first_of-answer.result _ _ (stopped));
+      new_history = sym (refused c.first_of-answer.result _ _ (stopped));
     }
 
 pub overflow_mul-kept : goal.overflow_mul-kept
@@ -121,7 +121,7 @@ returns c =
     let h = a.history.now in
     let l = sized in record {
       number = sym (sym (number) ∙ goes_on);
-      history = c.put_floats-2.ensures ∙ ap (λ (y : List ℕ). splice y (8 * n) (bytes_of (take (3 * n) h))) c.put_floats.ensures
+      new_history = c.put_floats-2.ensures ∙ ap (λ (y : List ℕ). splice y (8 * n) (bytes_of (take (3 * n) h))) c.put_floats.ensures
           ∙ bytes-then o x (take (3 * n) h) (8 * n) (omega (arith, l)) (omega (arith, l))
           ∙ sym (taken 0 _ _ refl);
     }
