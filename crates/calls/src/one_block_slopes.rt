@@ -61,7 +61,7 @@ pub fn gradient_one_block(
     ensures value { (answer_value result ≡ value_if (number_of result) (value_at (given_in counts codes task picks) floats.now block.old)) × (result ≡ answer_of (number_of result) (answer_value result)) }
     ensures block { block.new ≡ block.old }
     ensures slopes { FrontIfTaken (number_of result) slopes (gradient_of (given_in counts codes task picks) floats.now block.old) }
-    ensures record { RecordIfTaken (number_of result) record_joints record_links record_poses counts.now codes.now floats.now block.old }
+    ensures record_written { RecordIfTaken (number_of result) record_joints record_links record_poses counts.now codes.now floats.now block.old }
 {
     let number = one_block_refusal(
         counts,

@@ -215,7 +215,7 @@ pub(crate) fn gradient_one_block(
         (room_of value) (room_of slopes) (number_room_of record_joints) (number_room_of record_links) (room_of record_poses) }
     ensures value { value.new ≡ output_of result value (objective_value (sheet_of sizes codes floats limits) (task_of goals history weights tools) picks block.old) }
     ensures slopes { slopes.new ≡ output_of result slopes (gradient_slopes (sheet_of sizes codes floats limits) (task_of goals history weights tools) picks block.old) }
-    ensures record { RecordWritten result (sheet_of sizes codes floats limits) block.old record_joints record_links record_poses }
+    ensures record_written { RecordWritten result (sheet_of sizes codes floats limits) block.old record_joints record_links record_poses }
 {
     let number = one_block_number(
         sizes,

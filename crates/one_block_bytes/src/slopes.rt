@@ -36,7 +36,7 @@ pub fn gradient_one_block(
         (room_of value) (room_of slopes) (number_room_of record_joints) (number_room_of record_links) (room_of record_poses) }
     ensures value { value.new ≡ output_of result value (objective_value (sheet_in sizes codes floats limits) (task_in goals history weights (tools_in tool0 tool1 tool2 tool3)) (picks_from strict) (block_in joints)) }
     ensures slopes { slopes.new ≡ output_of result slopes (gradient_slopes (sheet_in sizes codes floats limits) (task_in goals history weights (tools_in tool0 tool1 tool2 tool3)) (picks_from strict) (block_in joints)) }
-    ensures record { RecordWritten result (sheet_in sizes codes floats limits) (block_in joints) record_joints record_links record_poses }
+    ensures record_written { RecordWritten result (sheet_in sizes codes floats limits) (block_in joints) record_joints record_links record_poses }
 {
     let mut s = [0u16; 5];
     let mut c = [0u16; 64];

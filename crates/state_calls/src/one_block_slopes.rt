@@ -33,7 +33,7 @@ fn gradient_one_block_on(
     ensures value { (answer_value result ≡ value_if (number_of result) (value_stored sizes.now codes.now floats.now task.now picks block.old)) × (result ≡ answer_of (number_of result) (answer_value result)) }
     ensures block { block.new ≡ block.old }
     ensures slopes { FrontIfTaken (number_of result) slopes (gradient_stored sizes.now codes.now floats.now task.now picks block.old) }
-    ensures record { RecordStored (number_of result) record_joints record_links record_poses sizes.now codes.now floats.now block.old }
+    ensures record_written { RecordStored (number_of result) record_joints record_links record_poses sizes.now codes.now floats.now block.old }
 {
     let n = state::in_use(sizes, codes);
     let number = stored_task::state_refusal(n.loaded, has_goals, started);
@@ -71,7 +71,7 @@ pub fn gradient_one_block(
     ensures value { (answer_value result ≡ value_if (number_of result) (objective_value_of state strict block.old)) × (result ≡ answer_of (number_of result) (answer_value result)) }
     ensures block { block.new ≡ block.old }
     ensures slopes { FrontIfTaken (number_of result) slopes (gradient_slopes_of state strict block.old) }
-    ensures record { FrontIfTaken (number_of result) record_joints (record_joints_of state)
+    ensures record_written { FrontIfTaken (number_of result) record_joints (record_joints_of state)
         × FrontIfTaken (number_of result) record_links (record_links_of state)
         × FrontIfTaken (number_of result) record_poses (record_poses_of state block.old) }
 {

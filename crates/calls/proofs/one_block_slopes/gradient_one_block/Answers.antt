@@ -23,7 +23,7 @@ returns-then-number-ne0 c =
       value = (sym (value-refused n _ t), sym (answer-refused n nan t));
       block = refl;
       slopes = sym (refused n _ _ t);
-      «record» = (sym (refused n _ _ t), sym (refused n _ _ t), sym (refused n _ _ t));
+      record_written = (sym (refused n _ _ t), sym (refused n _ _ t), sym (refused n _ _ t));
     }
 
 pub gradient-v-requires : goal.gradient-v-requires
@@ -44,5 +44,5 @@ returns c =
       value = (v.ensures.value ∙ sym (value_taken 0 _ refl), sym (answer-taken v.result));
       block = v.ensures.block_after;
       slopes = v.ensures.grad_after ∙ sym (taken 0 _ _ refl);
-      «record» = (v.ensures.joints_after.0 ∙ sym (taken 0 _ _ refl), v.ensures.joints_after.1 ∙ sym (taken 0 _ _ refl), v.ensures.frames_after ∙ sym (taken 0 _ _ refl));
+      record_written = (v.ensures.joints_after.0 ∙ sym (taken 0 _ _ refl), v.ensures.joints_after.1 ∙ sym (taken 0 _ _ refl), v.ensures.frames_after ∙ sym (taken 0 _ _ refl));
     }

@@ -18,7 +18,7 @@ returns-then-number-ne0 c =
       number = c.one_block_number-number.ensures;
       value = sym (refused n _ _ t);
       slopes = sym (refused n _ _ t);
-      «record» = (sym (refused n _ _ t), sym (refused n _ _ t), sym (refused n _ _ t));
+      record_written = (sym (refused n _ _ t), sym (refused n _ _ t), sym (refused n _ _ t));
     }
 
 pub entries-requires : goal.entries-requires
@@ -39,7 +39,9 @@ put_one_block-requires c =
     }
 
 pub returns-then-entries-le80 : goal.returns-then-entries-le80
-returns-then-entries-le80 c = (sym c.if-number-ne0.false ∙ c.one_block_number-number.ensures, c.put_one_block.ensures)
+returns-then-entries-le80 c =
+    let p = c.put_one_block.ensures in
+    record { number = sym c.if-number-ne0.false ∙ c.one_block_number-number.ensures; value = p.value_after; slopes = p.slopes_after; record_written = p.record_written }
 
 pub put_one_block-requires-2 : goal.put_one_block-requires-2
 put_one_block-requires-2 c =
@@ -52,4 +54,6 @@ put_one_block-requires-2 c =
     }
 
 pub returns : goal.returns
-returns c = (sym c.if-number-ne0.false ∙ c.one_block_number-number.ensures, c.put_one_block-2.ensures)
+returns c =
+    let p = c.put_one_block-2.ensures in
+    record { number = sym c.if-number-ne0.false ∙ c.one_block_number-number.ensures; value = p.value_after; slopes = p.slopes_after; record_written = p.record_written }

@@ -20,13 +20,13 @@ returns c =
     let t = same-four task_with d.of-goals.held d.of-history.held c.decode-nw.ensures.held c.decode-tools.ensures in
     let q = c.decode-picks.ensures in
     let x = d.of-joints.held in
-    let r = w.ensures.record in record {
+    let r = w.ensures.record_written in record {
       number = w.ensures.number
           ∙ same-three (λ s' t' x'. one_block_number s' t' x' (room_in (length a.value.now)) (room_in (length a.slopes.now))
           (number_room_in (length a.record_joints.now)) (number_room_in (length a.record_links.now)) (room_in (length a.record_poses.now))) z t x;
       value = w.ensures.value ∙ same-four (λ s' t' p' x'. if_taken w.result a.value.now (splice a.value.now 0 (bytes_of (objective_value s' t' p' x')))) z t q x;
       slopes = w.ensures.slopes ∙ same-four (λ s' t' p' x'. if_taken w.result a.slopes.now (splice a.slopes.now 0 (bytes_of (gradient_slopes s' t' p' x')))) z t q x;
-      «record» = (
+      record_written = (
         r.0 ∙ ap (λ (s' : SheetLists). if_taken w.result a.record_joints.now (splice a.record_joints.now 0 (bytes_of_numbers (record_joints_in s')))) z,
         r.1 ∙ ap (λ (s' : SheetLists). if_taken w.result a.record_links.now (splice a.record_links.now 0 (bytes_of_numbers (record_links_in s')))) z,
         r.2 ∙ same-two (λ s' x'. if_taken w.result a.record_poses.now (splice a.record_poses.now 0 (bytes_of (record_poses_in s' x')))) z x,

@@ -34,5 +34,5 @@ returns c =
       value = (m.ensures.value.0 ∙ value-laid a.state _ _ _ (lists) refl e x _ _ m.ensures.number, m.ensures.value.1);
       block = m.ensures.block;
       slopes = m.ensures.slopes ∙ slopes-laid a.state _ _ _ (lists) refl e x _ _ m.ensures.number EachLoss a.slopes.now;
-      «record» = m.ensures.record;
+      record_written = m.ensures.record_written;
     }

@@ -27,7 +27,7 @@ returns-then-number-ne0 c =
       value = (sym (value-refused n _ t), sym (answer-refused n nan t));
       block = refl;
       slopes = sym (refused n _ _ t);
-      «record» = (sym (refused n _ _ t), sym (refused n _ _ t), sym (refused n _ _ t));
+      record_written = (sym (refused n _ _ t), sym (refused n _ _ t), sym (refused n _ _ t));
     }
 
 pub overflow_add-end : goal.overflow_add-end
@@ -68,7 +68,7 @@ returns c =
     let x = a.block.now in
     let m = c.gradient_one_block in
     let n = c.in_use-n.result in
-    let r = m.ensures.record in record {
+    let r = m.ensures.record_written in record {
       number = m.ensures.number
           ∙ parts_are a.sizes.now a.codes.now a.floats.now n (U)
           (λ ns ks gs. one_block_refusal ns ks x (length a.slopes.now) (length a.record_joints.now) (length a.record_links.now) (length a.record_poses.now))
@@ -84,7 +84,7 @@ returns c =
           ∙ parts_are a.sizes.now a.codes.now a.floats.now n (U)
           (λ ns ks gs. if_taken (number_of m.result) a.slopes.now (splice a.slopes.now 0
           (gradient_of (given_of ns ks a.task.now a.picks) gs x)));
-      «record» = (
+      record_written = (
         r.0
             ∙ parts_are a.sizes.now a.codes.now a.floats.now n (U)
             (λ ns ks gs. if_taken (number_of m.result) a.record_joints.now (splice a.record_joints.now 0 (record_joints ns ks))),
