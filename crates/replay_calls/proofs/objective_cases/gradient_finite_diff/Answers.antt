@@ -67,8 +67,8 @@ returns c =
     let t = same-four task_from c.list-5.ensures.0 c.list-6.ensures.0 c.list-7.ensures.0 k in
     let x = ap (floats_in 16) c.list-12.ensures.0 in
     let p = ap picks_from c.list_number-strict.ensures in
-    let n = c.gradient_finite_diff-number.ensures.number ∙ same-four (λ (f : ℕ → ℕ → ℕ → ℕ) a c c. f a c c) (same-three slopes_number z t x) (ap room_in (filled-length (o objective_outputs) c.requires.scratch_value.0)) (ap room_in (filled-length (o (objective_outputs + 1)) c.requires.scratch_value.1)) (ap room_in (filled-length (o (objective_outputs + 2)) c.requires.scratch_value.2)) in
-    c.three.ensures ∙ same_answer _ _ objective_outputs n (same-three (λ a c c. a ∷ c ∷ c ∷ [])
+    let n = c.gradient_finite_diff-number.ensures.number ∙ same-four (λ (f : ℕ → ℕ → ℕ → ℕ) a b c. f a b c) (same-three slopes_number z t x) (ap room_in (filled-length (o objective_outputs) c.requires.scratch_value.0)) (ap room_in (filled-length (o (objective_outputs + 1)) c.requires.scratch_value.1)) (ap room_in (filled-length (o (objective_outputs + 2)) c.requires.scratch_value.2)) in
+    c.three.ensures ∙ same_answer _ _ objective_outputs n (same-three (λ a b c. a ∷ b ∷ c ∷ [])
     (c.gradient_finite_diff-number.ensures.scratch ∙ left-written (o objective_outputs) n c.requires.scratch_value.0 (ap bytes_of x))
     (c.gradient_finite_diff-number.ensures.value ∙ left-written (o (objective_outputs + 1)) n c.requires.scratch_value.1 (ap bytes_of (same-four objective_value z t p x)))
     (c.gradient_finite_diff-number.ensures.slopes ∙ left-written (o (objective_outputs + 2)) n c.requires.scratch_value.2 (ap bytes_of (same-four finite_diff_slopes z t p x))))

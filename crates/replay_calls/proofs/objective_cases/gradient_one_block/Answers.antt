@@ -68,10 +68,10 @@ returns c =
     let t = same-four task_from c.list-5.ensures.0 c.list-6.ensures.0 c.list-7.ensures.0 k in
     let x = ap (floats_in 16) c.list-12.ensures.0 in
     let p = ap picks_from c.list_number-strict.ensures in
-    let n = c.gradient_one_block-number.ensures.number ∙ same-four (λ (f : ℕ → ℕ → ℕ → ℕ) a c c. f a c c) (same-three (λ (f : ℕ → ℕ → ℕ → ℕ → ℕ → ℕ) a c. f a c) (same-three one_block_number z t x) (ap room_in (filled-length (o objective_outputs) c.requires.value_value.0)) (ap room_in (filled-length (o (objective_outputs + 1)) c.requires.value_value.1))) (ap number_room_in (filled-length (o (objective_outputs + 2)) c.requires.value_value.2)) (ap number_room_in (filled-length (o (objective_outputs + 3)) c.requires.value_value.3)) (ap room_in (filled-length (o (objective_outputs + 4)) c.requires.value_value.4)) in
-    c.five.ensures ∙ same_answer _ _ objective_outputs n (same-five (λ a c c d e. a ∷ c ∷ c ∷ d ∷ e ∷ [])
+    let n = c.gradient_one_block-number.ensures.number ∙ same-four (λ (f : ℕ → ℕ → ℕ → ℕ) a b c. f a b c) (same-three (λ (f : ℕ → ℕ → ℕ → ℕ → ℕ → ℕ) a b. f a b) (same-three one_block_number z t x) (ap room_in (filled-length (o objective_outputs) c.requires.value_value.0)) (ap room_in (filled-length (o (objective_outputs + 1)) c.requires.value_value.1))) (ap number_room_in (filled-length (o (objective_outputs + 2)) c.requires.value_value.2)) (ap number_room_in (filled-length (o (objective_outputs + 3)) c.requires.value_value.3)) (ap room_in (filled-length (o (objective_outputs + 4)) c.requires.value_value.4)) in
+    c.five.ensures ∙ same_answer _ _ objective_outputs n (same-five (λ a b c d e. a ∷ b ∷ c ∷ d ∷ e ∷ [])
     (c.gradient_one_block-number.ensures.value ∙ left-written (o objective_outputs) n c.requires.value_value.0 (ap bytes_of (same-four objective_value z t p x)))
     (c.gradient_one_block-number.ensures.slopes ∙ left-written (o (objective_outputs + 1)) n c.requires.value_value.1 (ap bytes_of (same-four gradient_slopes z t p x)))
-    (c.gradient_one_block-number.ensures.record.0 ∙ left-written (o (objective_outputs + 2)) n c.requires.value_value.2 (ap bytes_of_numbers (ap record_joints_in z)))
-    (c.gradient_one_block-number.ensures.record.1 ∙ left-written (o (objective_outputs + 3)) n c.requires.value_value.3 (ap bytes_of_numbers (ap record_links_in z)))
-    (c.gradient_one_block-number.ensures.record.2 ∙ left-written (o (objective_outputs + 4)) n c.requires.value_value.4 (ap bytes_of (same-two record_poses_in z x))))
+    (c.gradient_one_block-number.ensures.record_written.0 ∙ left-written (o (objective_outputs + 2)) n c.requires.value_value.2 (ap bytes_of_numbers (ap record_joints_in z)))
+    (c.gradient_one_block-number.ensures.record_written.1 ∙ left-written (o (objective_outputs + 3)) n c.requires.value_value.3 (ap bytes_of_numbers (ap record_links_in z)))
+    (c.gradient_one_block-number.ensures.record_written.2 ∙ left-written (o (objective_outputs + 4)) n c.requires.value_value.4 (ap bytes_of (same-two record_poses_in z x))))

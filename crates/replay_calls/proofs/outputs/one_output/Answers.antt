@@ -66,8 +66,7 @@ slice_bounds-objective-end c = sym (length-take-le _ _ (omega (arith, c.room-n.e
 pub objective-requires : goal.objective-requires
 unfolding outputs_from
 objective-requires c =
-    let r = c.in_default.rest in
-    let n : c.args.call ≡ 5 = omega (arith, c.requires.le_call, r.0.0.1, r.0.1, r.1) in
+    let n : c.args.call ≡ 5 = omega (arith, c.requires.le_call) in
     let k : outputs_from c.args.call ≡ objective_outputs = ap outputs_from n in record {
       at_bound = c.requires.at_bound;
       value_value = front-filled (list_of c.args.s.now c.args.at objective_outputs) _ 65536 c.buffer-a.ensures.0
@@ -77,5 +76,4 @@ objective-requires c =
 pub returns-in_default : goal.returns-in_default
 unfolding one_agrees
 returns-in_default c =
-    let r = c.in_default.rest in
-    rw (ne_eqb _ 2 r.0.0.1, ne_eqb _ 3 r.0.1, ne_eqb _ 4 r.1) c.objective.ensures
+    rw (ne_eqb c.args.call 2 (omega arith), ne_eqb c.args.call 3 (omega arith), ne_eqb c.args.call 4 (omega arith)) c.objective.ensures

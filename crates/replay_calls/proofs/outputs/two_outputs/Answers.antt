@@ -44,7 +44,7 @@ pub reset-requires : goal.reset-requires
 unfolding outputs_from
 reset-requires c =
     let o = list_of c.args.s.now c.args.at in
-    let n : c.args.call ≡ 7 = omega (arith, c.requires.le_call, c.in_default.rest.1) in
+    let n : c.args.call ≡ 7 = omega (arith, c.requires.le_call) in
     let k = c.outputs_from-k.ensures.0 ∙ ap outputs_from n in record {
       at_bound = c.requires.at_bound;
       history_value = (
@@ -55,4 +55,4 @@ reset-requires c =
 
 pub returns-in_default : goal.returns-in_default
 unfolding two_agree
-returns-in_default c = rw (ne_eqb _ 6 c.in_default.rest.1) c.reset.ensures
+returns-in_default c = rw (ne_eqb c.args.call 6 (omega arith)) c.reset.ensures

@@ -63,6 +63,4 @@ returns-in-43 c = (rw c.in-43.is, omega arith)
 
 pub returns-in_default : goal.returns-in_default
 unfolding outputs_from
-returns-in_default c =
-    let r = c.in_default.rest in
-    (rw (ne_eqb _ 0 r.0.0.0.0.0.0.0.0.0.0.0.0.0.1, ne_eqb _ 1 r.0.0.0.0.0.0.0.0.0.0.0.0.1, ne_eqb _ 2 r.0.0.0.0.0.0.0.0.0.0.0.1, ne_eqb _ 3 r.0.0.0.0.0.0.0.0.0.0.1, ne_eqb _ 4 r.0.0.0.0.0.0.0.0.0.1, ne_eqb _ 5 r.0.0.0.0.0.0.0.0.1, ne_eqb _ 6 r.0.0.0.0.0.0.0.1, ne_eqb _ 7 r.0.0.0.0.0.0.1, ne_eqb _ 8 r.0.0.0.0.0.1, ne_eqb _ 9 r.0.0.0.0.1, ne_eqb _ 10 r.0.0.0.1, ne_eqb _ 41 r.0.0.1, ne_eqb _ 42 r.0.1, ne_eqb _ 43 r.1), omega arith)
+returns-in_default c = (rw (ne_eqb c.args.call 0 (omega arith), ne_eqb c.args.call 1 (omega arith), ne_eqb c.args.call 2 (omega arith), ne_eqb c.args.call 3 (omega arith), ne_eqb c.args.call 4 (omega arith), ne_eqb c.args.call 5 (omega arith), ne_eqb c.args.call 6 (omega arith), ne_eqb c.args.call 7 (omega arith), ne_eqb c.args.call 8 (omega arith), ne_eqb c.args.call 9 (omega arith), ne_eqb c.args.call 10 (omega arith), ne_eqb c.args.call 41 (omega arith), ne_eqb c.args.call 42 (omega arith), ne_eqb c.args.call 43 (omega arith)), omega arith)
