@@ -1,76 +1,77 @@
 // The calls' names, by their numbers, on standard output.
-use libc::STDOUT_FILENO;
+use std::io;
+use std::io::Print;
 
-pub fn print_name(call: usize) -> bool {
+pub fn print_name<R: Print>(rt: &R, call: usize) -> io::Result<()> {
     match call {
-        0 => return io::write_all(STDOUT_FILENO, b"load"),
-        1 => return io::write_all(STDOUT_FILENO, b"set_goals"),
-        2 => return io::write_all(STDOUT_FILENO, b"pose"),
-        3 => return io::write_all(STDOUT_FILENO, b"manipulability"),
-        4 => return io::write_all(STDOUT_FILENO, b"update"),
-        5 => return io::write_all(STDOUT_FILENO, b"objective"),
-        6 => return io::write_all(STDOUT_FILENO, b"frames"),
-        7 => return io::write_all(STDOUT_FILENO, b"reset"),
-        8 => return io::write_all(STDOUT_FILENO, b"gradient"),
-        9 => return io::write_all(STDOUT_FILENO, b"gradient_finite_diff"),
-        10 => return io::write_all(STDOUT_FILENO, b"gradient_one_block"),
-        _ => return print_leaf(call),
+        0 => return rt.write_all(b"load"),
+        1 => return rt.write_all(b"set_goals"),
+        2 => return rt.write_all(b"pose"),
+        3 => return rt.write_all(b"manipulability"),
+        4 => return rt.write_all(b"update"),
+        5 => return rt.write_all(b"objective"),
+        6 => return rt.write_all(b"frames"),
+        7 => return rt.write_all(b"reset"),
+        8 => return rt.write_all(b"gradient"),
+        9 => return rt.write_all(b"gradient_finite_diff"),
+        10 => return rt.write_all(b"gradient_one_block"),
+        _ => return print_leaf(rt, call),
     }
 }
 
-fn print_leaf(call: usize) -> bool {
+fn print_leaf<R: Print>(rt: &R, call: usize) -> io::Result<()> {
     match call {
-        11 => return io::write_all(STDOUT_FILENO, b"sqrt"),
-        12 => return io::write_all(STDOUT_FILENO, b"sin"),
-        13 => return io::write_all(STDOUT_FILENO, b"cos"),
-        14 => return io::write_all(STDOUT_FILENO, b"exp"),
-        15 => return io::write_all(STDOUT_FILENO, b"atan2"),
-        16 => return io::write_all(STDOUT_FILENO, b"power20"),
-        17 => return io::write_all(STDOUT_FILENO, b"power30"),
-        18 => return io::write_all(STDOUT_FILENO, b"b20"),
-        19 => return io::write_all(STDOUT_FILENO, b"b30"),
-        20 => return io::write_all(STDOUT_FILENO, b"cut"),
-        21 => return io::write_all(STDOUT_FILENO, b"abs"),
-        22 => return io::write_all(STDOUT_FILENO, b"groove_loss"),
-        23 => return io::write_all(STDOUT_FILENO, b"swamp_groove_loss"),
-        24 => return io::write_all(STDOUT_FILENO, b"swamp_loss, power 20"),
-        25 => return io::write_all(STDOUT_FILENO, b"swamp_loss, power 30"),
-        26 => return io::write_all(STDOUT_FILENO, b"loss_position"),
-        27 => return io::write_all(STDOUT_FILENO, b"loss_rotation"),
-        28 => return io::write_all(STDOUT_FILENO, b"loss_limits"),
-        _ => return print_shape(call),
+        11 => return rt.write_all(b"sqrt"),
+        12 => return rt.write_all(b"sin"),
+        13 => return rt.write_all(b"cos"),
+        14 => return rt.write_all(b"exp"),
+        15 => return rt.write_all(b"atan2"),
+        16 => return rt.write_all(b"power20"),
+        17 => return rt.write_all(b"power30"),
+        18 => return rt.write_all(b"b20"),
+        19 => return rt.write_all(b"b30"),
+        20 => return rt.write_all(b"cut"),
+        21 => return rt.write_all(b"abs"),
+        22 => return rt.write_all(b"groove_loss"),
+        23 => return rt.write_all(b"swamp_groove_loss"),
+        24 => return rt.write_all(b"swamp_loss, power 20"),
+        25 => return rt.write_all(b"swamp_loss, power 30"),
+        26 => return rt.write_all(b"loss_position"),
+        27 => return rt.write_all(b"loss_rotation"),
+        28 => return rt.write_all(b"loss_limits"),
+        _ => return print_shape(rt, call),
     }
 }
 
-fn print_shape(call: usize) -> bool {
+fn print_shape<R: Print>(rt: &R, call: usize) -> io::Result<()> {
     match call {
-        29 => return io::write_all(STDOUT_FILENO, b"norm"),
-        30 => return io::write_all(STDOUT_FILENO, b"segment_distance"),
-        31 => return io::write_all(STDOUT_FILENO, b"determinant"),
-        32 => return io::write_all(STDOUT_FILENO, b"quat_product"),
-        33 => return io::write_all(STDOUT_FILENO, b"quat_inverse"),
-        34 => return io::write_all(STDOUT_FILENO, b"get_quat_x"),
-        35 => return io::write_all(STDOUT_FILENO, b"get_quat_y"),
-        36 => return io::write_all(STDOUT_FILENO, b"get_quat_z"),
-        37 => return io::write_all(STDOUT_FILENO, b"rotate"),
-        38 => return io::write_all(STDOUT_FILENO, b"cross"),
-        39 => return io::write_all(STDOUT_FILENO, b"scaled_axis"),
-        40 => return io::write_all(STDOUT_FILENO, b"gram"),
-        41 => return io::write_all(STDOUT_FILENO, b"sizing"),
-        42 => return io::write_all(STDOUT_FILENO, b"set_weights"),
-        43 => return io::write_all(STDOUT_FILENO, b"set_tool"),
-        _ => return print_strict(call),
+        29 => return rt.write_all(b"norm"),
+        30 => return rt.write_all(b"segment_distance"),
+        31 => return rt.write_all(b"determinant"),
+        32 => return rt.write_all(b"quat_product"),
+        33 => return rt.write_all(b"quat_inverse"),
+        34 => return rt.write_all(b"get_quat_x"),
+        35 => return rt.write_all(b"get_quat_y"),
+        36 => return rt.write_all(b"get_quat_z"),
+        37 => return rt.write_all(b"rotate"),
+        38 => return rt.write_all(b"cross"),
+        39 => return rt.write_all(b"scaled_axis"),
+        40 => return rt.write_all(b"gram"),
+        41 => return rt.write_all(b"sizing"),
+        42 => return rt.write_all(b"set_weights"),
+        43 => return rt.write_all(b"set_tool"),
+        _ => return print_strict(rt, call),
     }
 }
 
-fn print_strict(call: usize) -> bool {
+fn print_strict<R: Print>(rt: &R, call: usize) -> io::Result<()> {
     match call {
-        44 => return io::write_all(STDOUT_FILENO, b"acos"),
-        45 => return io::write_all(STDOUT_FILENO, b"from_quaternion"),
-        46 => return io::write_all(STDOUT_FILENO, b"quaternion_log"),
-        47 => return io::write_all(STDOUT_FILENO, b"quaternion_disp"),
-        48 => return io::write_all(STDOUT_FILENO, b"angle_between_quaternion"),
-        49 => return io::write_all(STDOUT_FILENO, b"loss_pos_goals"),
-        _ => return io::write_all(STDOUT_FILENO, b"loss_quat_goals"),
+        44 => return rt.write_all(b"acos"),
+        45 => return rt.write_all(b"from_quaternion"),
+        46 => return rt.write_all(b"quaternion_log"),
+        47 => return rt.write_all(b"quaternion_disp"),
+        48 => return rt.write_all(b"angle_between_quaternion"),
+        49 => return rt.write_all(b"loss_pos_goals"),
+        _ => return rt.write_all(b"loss_quat_goals"),
     }
 }

@@ -1,4 +1,5 @@
 -- `loss` meets its contract: by the call's number, and by what the calls of its arm ensure.
+use native.Mathlib.Omega.{arith}
 use borrow.Author.Tests.{ne_eqb}
 use Rattle.replay.specs.Leaves.{loss_of}
 use borrow.Author.Rules.{rules}
@@ -31,5 +32,4 @@ returns-in-27 c = rw c.in-27.is (cc)
 pub returns-in_default : goal.returns-in_default
 unfolding loss_of
 returns-in_default c =
-    let r = c.in_default.rest in
-    rw (ne_eqb _ 22 r.0.0.0.0.0.1, ne_eqb _ 23 r.0.0.0.0.1, ne_eqb _ 24 r.0.0.0.1, ne_eqb _ 25 r.0.0.1, ne_eqb _ 26 r.0.1, ne_eqb _ 27 r.1) (cc)
+    rw (ne_eqb c.args.call 22 (omega arith), ne_eqb c.args.call 23 (omega arith), ne_eqb c.args.call 24 (omega arith), ne_eqb c.args.call 25 (omega arith), ne_eqb c.args.call 26 (omega arith), ne_eqb c.args.call 27 (omega arith)) (cc)

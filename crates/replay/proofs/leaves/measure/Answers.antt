@@ -1,4 +1,5 @@
 -- `measure` meets its contract: by the call's number, and by what the calls of its arm ensure.
+use native.Mathlib.Omega.{arith}
 use borrow.Author.Tests.{ne_eqb}
 use Rattle.replay.specs.Leaves.{measure_of}
 use borrow.Author.Rules.{rules}
@@ -15,5 +16,4 @@ returns-in-30 c = rw c.in-30.is (cc)
 pub returns-in_default : goal.returns-in_default
 unfolding measure_of
 returns-in_default c =
-    let r = c.in_default.rest in
-    rw (ne_eqb _ 29 r.0.1, ne_eqb _ 30 r.1) (cc)
+    rw (ne_eqb c.args.call 29 (omega arith), ne_eqb c.args.call 30 (omega arith)) (cc)

@@ -1,4 +1,5 @@
 -- `quat` meets its contract: by the call's number, and by what the calls of its arm ensure.
+use native.Mathlib.Omega.{arith}
 use borrow.Author.Tests.{ne_eqb}
 use Rattle.replay.specs.Leaves.{quat_of}
 use borrow.Author.Rules.{rules}
@@ -23,5 +24,4 @@ returns-in-35 c = rw c.in-35.is (cc)
 pub returns-in_default : goal.returns-in_default
 unfolding quat_of
 returns-in_default c =
-    let r = c.in_default.rest in
-    rw (ne_eqb _ 32 r.0.0.0.1, ne_eqb _ 33 r.0.0.1, ne_eqb _ 34 r.0.1, ne_eqb _ 35 r.1) (cc)
+    rw (ne_eqb c.args.call 32 (omega arith), ne_eqb c.args.call 33 (omega arith), ne_eqb c.args.call 34 (omega arith), ne_eqb c.args.call 35 (omega arith)) (cc)

@@ -1,4 +1,5 @@
 -- `standin` meets its contract: by the call's number, and by what the calls of its arm ensure.
+use native.Mathlib.Omega.{arith}
 use borrow.Author.Tests.{ne_eqb}
 use Rattle.replay.specs.Leaves.{standin_of}
 use borrow.Author.Rules.{rules}
@@ -47,5 +48,4 @@ returns-in-20 c = rw c.in-20.is (cc)
 pub returns-in_default : goal.returns-in_default
 unfolding standin_of
 returns-in_default c =
-    let r = c.in_default.rest in
-    rw (ne_eqb _ 11 r.0.0.0.0.0.0.0.0.0.1, ne_eqb _ 12 r.0.0.0.0.0.0.0.0.1, ne_eqb _ 13 r.0.0.0.0.0.0.0.1, ne_eqb _ 14 r.0.0.0.0.0.0.1, ne_eqb _ 15 r.0.0.0.0.0.1, ne_eqb _ 16 r.0.0.0.0.1, ne_eqb _ 17 r.0.0.0.1, ne_eqb _ 18 r.0.0.1, ne_eqb _ 19 r.0.1, ne_eqb _ 20 r.1) (cc)
+    rw (ne_eqb c.args.call 11 (omega arith), ne_eqb c.args.call 12 (omega arith), ne_eqb c.args.call 13 (omega arith), ne_eqb c.args.call 14 (omega arith), ne_eqb c.args.call 15 (omega arith), ne_eqb c.args.call 16 (omega arith), ne_eqb c.args.call 17 (omega arith), ne_eqb c.args.call 18 (omega arith), ne_eqb c.args.call 19 (omega arith), ne_eqb c.args.call 20 (omega arith)) (cc)

@@ -10,10 +10,10 @@ use Rattle.replay.proofs.report.each_call.Goals as goal
 
 pub loop-call-init : goal.loop-call-init
 unfolding sum_of
-loop-call-init c = (omega arith, refl, refl, omega arith, omega arith)
+loop-call-init g c = (omega arith, refl, refl, omega arith, omega arith)
 
 pub loop-call-preserved : goal.loop-call-preserved
-loop-call-preserved c =
+loop-call-preserved g c =
     let l = c.loop-call in
     let t = c.tally-t.ensures in
     let s = c.args.s.now in (
@@ -25,7 +25,7 @@ loop-call-preserved c =
     )
 
 pub returns : goal.returns
-returns c =
+returns g c =
     let l = c.loop-call in
     let s = c.args.s.now in
     let e : l.call ≡ calls = omega arith in

@@ -9,7 +9,7 @@ use Rattle.replay.specs.Tally.{cases_of, differ_of}
 use Rattle.replay.proofs.report.each_call.Given as goal
 
 abbrev pub invariant-loop-call : goal.invariant-loop-call
-invariant-loop-call l = (l.call ≤ calls) × (l.all.cases ≡ sum_of (cases_of l.s) l.call) × (l.all.differ ≡ sum_of (differ_of l.s) l.call) × (l.all.cases ≤ 65535 * l.call) × (l.all.differ ≤ 65535 * l.call)
+invariant-loop-call g l = (l.call ≤ calls) × (l.all.cases ≡ sum_of (cases_of l.s) l.call) × (l.all.differ ≡ sum_of (differ_of l.s) l.call) × (l.all.cases ≤ 65535 * l.call) × (l.all.differ ≤ 65535 * l.call)
 
 abbrev pub decreases-loop-call : goal.decreases-loop-call
-decreases-loop-call l = calls - l.call
+decreases-loop-call g l = calls - l.call

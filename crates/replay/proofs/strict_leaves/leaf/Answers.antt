@@ -1,4 +1,5 @@
 -- `leaf` meets its contract: by the call's number, and by what the calls of its arm ensure.
+use native.Mathlib.Omega.{arith}
 use mathlib.Core.Path.{refl, sym, ap, ◌∙◌}
 use mathlib.Core.List.{List, [], ◌∷◌}
 use lib.Ieee.{Float}
@@ -59,7 +60,6 @@ returns-in-49 c =
 pub returns-in_default : goal.returns-in_default
 unfolding strict_leaf_agrees strict_leaf_of
 returns-in_default c =
-    let r = c.in_default.rest in
-    rw (← c.number_at-call.ensures.0, ← c.list-b.ensures.0, ne_eqb _ 44 r.0.0.0.0.0.1, ne_eqb _ 45 r.0.0.0.0.1, ne_eqb _ 46 r.0.0.0.1, ne_eqb _ 47 r.0.0.1, ne_eqb _ 48 r.0.1, ne_eqb _ 49 r.1)
+    rw (← c.number_at-call.ensures.0, ← c.list-b.ensures.0, ne_eqb c.number_at-call.result 44 (omega arith), ne_eqb c.number_at-call.result 45 (omega arith), ne_eqb c.number_at-call.result 46 (omega arith), ne_eqb c.number_at-call.result 47 (omega arith), ne_eqb c.number_at-call.result 48 (omega arith), ne_eqb c.number_at-call.result 49 (omega arith))
     (c.floats-in_default.ensures ∙ same_answer _ _ 1 refl (ap (λ (x : Float). bytes_of (x ∷ []) ∷ [])
     (c.quat_goals_loss.ensures ∙ same-two quat_goals_loss c.quat_at-in_default.ensures c.quat_at-in_default-2.ensures)))

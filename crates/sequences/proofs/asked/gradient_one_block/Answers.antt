@@ -39,6 +39,6 @@ returns c =
     ∙ same_answer _ _ objective_outputs n (ap (λ (v : Float). bytes_of (v ∷ []) ∷ []) (c.gradient_one_block-answer.ensures.value.0 ∙ same-two value_if n (same-two (objective_value_of st) t x))) in
     let second = agrees_on _ _ _ objective_outputs (_ ∷ []) value (ap bytes_of (c.gradient_one_block-answer.ensures.block ∙ x)) c.floats-b.ensures in
     let third = agrees_on _ _ _ objective_outputs (_ ∷ _ ∷ []) second (ap bytes_of (c.gradient_one_block-answer.ensures.slopes ∙ left-same n o.0 (same-two (gradient_slopes_of st) t x))) c.floats-c.ensures in
-    let fourth = agrees_on _ _ _ objective_outputs (_ ∷ _ ∷ _ ∷ []) third (ap bytes_of_numbers (c.gradient_one_block-answer.ensures.record.0 ∙ left-same {xs = record_joints_of st} n o.1 refl)) c.numbers-d.ensures in
-    let fifth = agrees_on _ _ _ objective_outputs (_ ∷ _ ∷ _ ∷ _ ∷ []) fourth (ap bytes_of_numbers (c.gradient_one_block-answer.ensures.record.1 ∙ left-same {xs = record_links_of st} n o.2 refl)) c.numbers-e.ensures in
-    agrees_on _ _ _ objective_outputs (_ ∷ _ ∷ _ ∷ _ ∷ _ ∷ []) fifth (ap bytes_of (c.gradient_one_block-answer.ensures.record.2 ∙ left-same n o.3 (ap (record_poses_of st) x))) c.floats.ensures
+    let fourth = agrees_on _ _ _ objective_outputs (_ ∷ _ ∷ _ ∷ []) third (ap bytes_of_numbers (c.gradient_one_block-answer.ensures.record_written.0 ∙ left-same {xs = record_joints_of st} n o.1 refl)) c.numbers-d.ensures in
+    let fifth = agrees_on _ _ _ objective_outputs (_ ∷ _ ∷ _ ∷ _ ∷ []) fourth (ap bytes_of_numbers (c.gradient_one_block-answer.ensures.record_written.1 ∙ left-same {xs = record_links_of st} n o.2 refl)) c.numbers-e.ensures in
+    agrees_on _ _ _ objective_outputs (_ ∷ _ ∷ _ ∷ _ ∷ _ ∷ []) fifth (ap bytes_of (c.gradient_one_block-answer.ensures.record_written.2 ∙ left-same n o.3 (ap (record_poses_of st) x))) c.floats.ensures

@@ -1,4 +1,5 @@
 -- `outcome` meets its contract: by the call's number.
+use native.Mathlib.Omega.{arith}
 use mathlib.Core.Path.{ap}
 use borrow.Author.Tests.{ne_eqb}
 use Rattle.state_calls.specs.declared.state.State.{State}
@@ -38,5 +39,4 @@ returns-in-14 c = rw c.in-14.is c.set_tool.ensures
 pub returns-in_default : goal.returns-in_default
 unfolding outcome_at
 returns-in_default c =
-    let r = c.in_default.rest in
-    rw (ne_eqb _ 0 r.0.0.0.0.0.0.1, ne_eqb _ 1 r.0.0.0.0.0.1, ne_eqb _ 2 r.0.0.0.0.1, ne_eqb _ 3 r.0.0.0.1, ne_eqb _ 4 r.0.0.1, ne_eqb _ 13 r.0.1, ne_eqb _ 14 r.1)
+    rw (ne_eqb c.args.call 0 (omega arith), ne_eqb c.args.call 1 (omega arith), ne_eqb c.args.call 2 (omega arith), ne_eqb c.args.call 3 (omega arith), ne_eqb c.args.call 4 (omega arith), ne_eqb c.args.call 13 (omega arith), ne_eqb c.args.call 14 (omega arith))

@@ -1,4 +1,5 @@
 -- `asked_on` meets its contract: by the call's number.
+use native.Mathlib.Omega.{arith}
 use borrow.Author.Tests.{ne_eqb}
 use Rattle.sequences.specs.Asked.{asked_agrees}
 use Rattle.sequences.proofs.steps.asked_on.Lts as lts
@@ -28,5 +29,4 @@ returns-in-9 c = rw c.in-9.is c.gradient.ensures
 pub returns-in_default : goal.returns-in_default
 unfolding asked_agrees
 returns-in_default c =
-    let r = c.in_default.rest in
-    rw (ne_eqb _ 5 r.0.0.0.0.1, ne_eqb _ 6 r.0.0.0.1, ne_eqb _ 7 r.0.0.1, ne_eqb _ 8 r.0.1, ne_eqb _ 9 r.1) c.gradient_finite_diff.ensures
+    rw (ne_eqb c.args.call 5 (omega arith), ne_eqb c.args.call 6 (omega arith), ne_eqb c.args.call 7 (omega arith), ne_eqb c.args.call 8 (omega arith), ne_eqb c.args.call 9 (omega arith)) c.gradient_finite_diff.ensures

@@ -65,5 +65,4 @@ returns-in-13 c = (rw c.in-13.is, omega arith)
 pub returns-in_default : goal.returns-in_default
 unfolding lists_of
 returns-in_default c =
-    let r = c.in_default.rest in
-    (rw (ne_eqb _ 0 r.0.0.0.0.0.0.0.0.0.0.0.0.0.1, ne_eqb _ 1 r.0.0.0.0.0.0.0.0.0.0.0.0.1, ne_eqb _ 2 r.0.0.0.0.0.0.0.0.0.0.0.1, ne_eqb _ 3 r.0.0.0.0.0.0.0.0.0.0.1, ne_eqb _ 4 r.0.0.0.0.0.0.0.0.0.1, ne_eqb _ 5 r.0.0.0.0.0.0.0.0.1, ne_eqb _ 6 r.0.0.0.0.0.0.0.1, ne_eqb _ 7 r.0.0.0.0.0.0.1, ne_eqb _ 8 r.0.0.0.0.0.1, ne_eqb _ 9 r.0.0.0.0.1, ne_eqb _ 10 r.0.0.0.1, ne_eqb _ 11 r.0.0.1, ne_eqb _ 12 r.0.1, ne_eqb _ 13 r.1), omega arith)
+    (rw (ne_eqb c.args.call 0 (omega arith), ne_eqb c.args.call 1 (omega arith), ne_eqb c.args.call 2 (omega arith), ne_eqb c.args.call 3 (omega arith), ne_eqb c.args.call 4 (omega arith), ne_eqb c.args.call 5 (omega arith), ne_eqb c.args.call 6 (omega arith), ne_eqb c.args.call 7 (omega arith), ne_eqb c.args.call 8 (omega arith), ne_eqb c.args.call 9 (omega arith), ne_eqb c.args.call 10 (omega arith), ne_eqb c.args.call 11 (omega arith), ne_eqb c.args.call 12 (omega arith), ne_eqb c.args.call 13 (omega arith)), omega arith)
