@@ -2,7 +2,7 @@
 CASES ?= 2000000
 SEED ?= 1
 
-.PHONY: run test library host compare bench header pages controller
+.PHONY: run test library programs host compare bench header pages controller
 
 run: host
 	host/target/release/sonde --batch examples/sheets/good
@@ -12,7 +12,14 @@ test:
 
 # the proved code as a static library
 library:
-	rt staticlib exports
+	cd crates/exports && rt lib
+	mkdir -p target/staticlib
+	cp crates/exports/out/libexports.a target/staticlib/
+
+# the two proved programs, each run once on the list that it is kept with
+programs:
+	mkdir -p target/bin
+	for name in replay sequences; do (cd crates/$$name && rt run <stdin >/dev/null) && cp crates/$$name/out/$$name target/bin/ || exit 1; done
 
 host: library
 	cargo build --release --offline --quiet --manifest-path host/Cargo.toml

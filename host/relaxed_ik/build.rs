@@ -11,7 +11,7 @@ fn main() {
     println!("cargo:rerun-if-changed={}", archive.display());
     let Ok(bytes) = fs::read(&archive) else {
         eprintln!(
-            "the proved library is missing: {}\nrun `rt staticlib exports` at the repository's root, then build again",
+            "the proved library is missing: {}\nrun `make library` at the repository's root, then build again",
             archive.display()
         );
         process::exit(1);

@@ -6,7 +6,7 @@ use native.Mathlib.Omega.{arith}
 use lib.Dec.{T}
 use lib.Ieee.{Float, binary64, to_bits, fits}
 use lib.Ieee.Positive.{positive}
-use Rattle.root.specs.Root.{steps, not_negative}
+use Rattle.root.specs.Root.{steps}
 use Rattle.root.proofs.Fields.{Grid, grid}
 use Rattle.root.proofs.Patterns.{pattern-steps}
 use Rattle.root.proofs.Neighbour.{next_up, next_down}

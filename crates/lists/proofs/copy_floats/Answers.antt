@@ -1,10 +1,8 @@
-use mathlib.Core.Path.{◌≡◌, refl, ◌∙◌}
-use Prim.Native.Nat.{◌-◌, ◌≤◌}
+use mathlib.Core.Path.{refl, ◌∙◌}
 use native.Mathlib.Omega.{arith}
-use lib.ListN.{length, length-set}
+use lib.ListN.{length-set}
 use lib.Ieee.{nan}
-use Rattle.lists.specs.Listed.{copied, copied_none, copied-turn, copied-whole}
-use borrow.Author.Rules.{rules}
+use Rattle.lists.specs.Listed.{copied_none, copied-turn, copied-whole}
 use Rattle.lists.proofs.copy_floats.Goals as goal
 
 pub loop-i-init : goal.loop-i-init

@@ -1,10 +1,9 @@
 -- `copy_floats` meets its contract: turn after turn one element more.
-use mathlib.Core.Path.{◌≡◌, refl, ◌∙◌}
+use mathlib.Core.Path.{◌≡◌}
 use Prim.Native.Nat.{◌-◌, ◌≤◌}
-use native.Mathlib.Omega.{arith}
-use lib.ListN.{length, length-set}
+use lib.ListN.{length}
 use lib.Ieee.{nan}
-use Rattle.lists.specs.Listed.{copied, copied_none, copied-turn, copied-whole}
+use Rattle.lists.specs.Listed.{copied}
 use Rattle.lists.proofs.copy_floats.Given as goal
 
 abbrev pub invariant-loop-i : goal.invariant-loop-i

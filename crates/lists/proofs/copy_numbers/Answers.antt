@@ -1,9 +1,7 @@
-use mathlib.Core.Path.{◌≡◌, refl, ◌∙◌}
-use Prim.Native.Nat.{◌-◌, ◌≤◌}
+use mathlib.Core.Path.{refl, ◌∙◌}
 use native.Mathlib.Omega.{arith}
-use lib.ListN.{length, length-set}
-use Rattle.lists.specs.Listed.{copied, copied_none, copied-turn, copied-whole}
-use borrow.Author.Rules.{rules}
+use lib.ListN.{length-set}
+use Rattle.lists.specs.Listed.{copied_none, copied-turn, copied-whole}
 use Rattle.lists.proofs.copy_numbers.Goals as goal
 
 pub loop-i-init : goal.loop-i-init

@@ -1,9 +1,8 @@
 -- `copy_numbers` meets its contract: turn after turn one element more.
-use mathlib.Core.Path.{◌≡◌, refl, ◌∙◌}
+use mathlib.Core.Path.{◌≡◌}
 use Prim.Native.Nat.{◌-◌, ◌≤◌}
-use native.Mathlib.Omega.{arith}
-use lib.ListN.{length, length-set}
-use Rattle.lists.specs.Listed.{copied, copied_none, copied-turn, copied-whole}
+use lib.ListN.{length}
+use Rattle.lists.specs.Listed.{copied}
 use Rattle.lists.proofs.copy_numbers.Given as goal
 
 abbrev pub invariant-loop-i : goal.invariant-loop-i

@@ -1,8 +1,7 @@
 use mathlib.Core.Path.{refl}
 use Prim.Native.Nat.{◌≤◌}
 use native.Mathlib.Omega.{arith}
-use Rattle.root.proofs.Turn.{Turn, Last, taken, left, last, big, carry, stays, moves}
-use borrow.Author.Rules.{rules}
+use Rattle.root.proofs.Turn.{Last, taken, left, last, big, carry, stays, moves}
 use Rattle.root.proofs.by_digits.Goals as goal
 
 pub loop-k-init : goal.loop-k-init

@@ -1,8 +1,5 @@
 -- `root::by_digits` meets its contract. The invariant is `Turn`, and the measure is k.
-use mathlib.Core.Path.{refl}
-use Prim.Native.Nat.{◌≤◌}
-use native.Mathlib.Omega.{arith}
-use Rattle.root.proofs.Turn.{Turn, Last, taken, left, last, big, carry, stays, moves}
+use Rattle.root.proofs.Turn.{Turn}
 use Rattle.root.proofs.by_digits.Given as goal
 
 abbrev pub invariant-loop-k : goal.invariant-loop-k

@@ -1,6 +1,5 @@
 -- `root::digits` meets its contract, whatever the guess: a guess that passes the test is right.
 use Rattle.root.proofs.Special.{no_nan}
-use borrow.Author.Rules.{rules}
 use Rattle.root.proofs.digits.Goals as goal
 
 pub float_to_bits-q : goal.float_to_bits-q

@@ -1,6 +1,5 @@
 -- `root::even` meets its contract: the two exponents, odd and even.
 use Rattle.root.proofs.Fields.{even_odd, even-even}
-use borrow.Author.Rules.{rules}
 use Rattle.root.proofs.even.Goals as goal
 
 pub returns-then-k-eq1 : goal.returns-then-k-eq1

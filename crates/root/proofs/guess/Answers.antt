@@ -3,7 +3,6 @@ use Prim.Native.Nat.{◌/◌, ◌^◌}
 use native.Mathlib.Nat.{div-le_self}
 use native.Mathlib.Omega.{arith}
 use Rattle.root.proofs.Patterns.{no-nan-bits}
-use borrow.Author.Rules.{rules}
 use Rattle.root.proofs.guess.Goals as goal
 
 pub overflow_add-u-2 : goal.overflow_add-u-2

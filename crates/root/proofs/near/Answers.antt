@@ -6,7 +6,6 @@ use Prim.Native.Nat.{◌/◌, ◌%◌}
 use native.Mathlib.Omega.{arith}
 use Rattle.root.proofs.Number.{near-digits}
 use Rattle.root.proofs.Halves.{Halves, halves, passed}
-use borrow.Author.Rules.{rules}
 use Rattle.root.proofs.near.Goals as goal
 
 pub overflow_mul-m-2 : goal.overflow_mul-m-2

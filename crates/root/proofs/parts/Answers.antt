@@ -4,7 +4,6 @@ use mathlib.Core.Path.{◌≡◌, sym, subst}
 use native.Mathlib.Omega.{arith}
 use lib.Count.{count_leading_zeros}
 use Rattle.root.proofs.Fields.{Moved, moved, low_parts, high_parts}
-use borrow.Author.Rules.{rules}
 use Rattle.root.proofs.parts.Goals as goal
 
 -- a pattern that is not 0 and has the field 0 has digits

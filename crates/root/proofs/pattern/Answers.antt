@@ -1,7 +1,6 @@
 -- `root::pattern` meets its contract: the parts and the digits, joined.
 use mathlib.Core.Path.{refl}
 use Rattle.root.proofs.Fields.{joined}
-use borrow.Author.Rules.{rules}
 use Rattle.root.proofs.pattern.Goals as goal
 
 pub returns : goal.returns

@@ -2,7 +2,6 @@
 use mathlib.Core.Path.{◌≡◌, sym, subst}
 use lib.Dec.{T}
 use lib.Ieee.{Float, binary64, fits}
-use lib.Ieee.Positive.{positive}
 use Rattle.root.specs.Root.{root_of, IsRoot}
 use Rattle.root.proofs.Special.{nan-root, no_nan, zero-root, negative-root, inf-root, positive-left}
 use Rattle.root.proofs.Patterns.{pattern_lt}

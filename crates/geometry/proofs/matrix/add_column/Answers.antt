@@ -1,9 +1,7 @@
-use Prim.Native.Nat.{◌-◌}
 use native.Mathlib.Omega.{arith}
-use Rattle.geometry.specs.Matrix.{added_of, add_column_of}
-use Rattle.geometry.proofs.Tables.{Rewritten, by_row, rewritten-start, rewritten-all}
+use Rattle.geometry.specs.Matrix.{add_column_of}
+use Rattle.geometry.proofs.Tables.{rewritten-start, rewritten-all}
 use Rattle.geometry.proofs.Sums.{gain-row}
-use borrow.Author.Rules.{rules}
 use Rattle.geometry.proofs.matrix.add_column.Goals as goal
 
 pub loop-r-init : goal.loop-r-init

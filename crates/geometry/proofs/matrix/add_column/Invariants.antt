@@ -1,9 +1,7 @@
 -- `add_column` meets its contract. The rows before `r` have gained.
 use Prim.Native.Nat.{◌-◌}
-use native.Mathlib.Omega.{arith}
-use Rattle.geometry.specs.Matrix.{added_of, add_column_of}
-use Rattle.geometry.proofs.Tables.{Rewritten, by_row, rewritten-start, rewritten-all}
-use Rattle.geometry.proofs.Sums.{gain-row}
+use Rattle.geometry.specs.Matrix.{added_of}
+use Rattle.geometry.proofs.Tables.{Rewritten, by_row}
 use Rattle.geometry.proofs.matrix.add_column.Given as goal
 
 abbrev pub invariant-loop-r : goal.invariant-loop-r

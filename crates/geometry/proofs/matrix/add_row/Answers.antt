@@ -1,8 +1,7 @@
-use Prim.Native.Nat.{◌-◌, ◌<◌}
+use Prim.Native.Nat.{◌<◌}
 use native.Mathlib.Omega.{arith}
-use Rattle.geometry.specs.Matrix.{in_row, added_of}
-use Rattle.geometry.proofs.Tables.{Rewritten, by_column, rewritten-start, rewritten-all, row-turn}
-use borrow.Author.Rules.{rules}
+use Rattle.geometry.specs.Matrix.{added_of}
+use Rattle.geometry.proofs.Tables.{rewritten-start, rewritten-all, row-turn}
 use Rattle.geometry.proofs.matrix.add_row.Goals as goal
 
 pub loop-s-init : goal.loop-s-init

@@ -1,8 +1,7 @@
 -- `add_row` meets its contract. In the columns before `s` row `r` has gained.
-use Prim.Native.Nat.{◌-◌, ◌<◌}
-use native.Mathlib.Omega.{arith}
+use Prim.Native.Nat.{◌-◌}
 use Rattle.geometry.specs.Matrix.{in_row, added_of}
-use Rattle.geometry.proofs.Tables.{Rewritten, by_column, rewritten-start, rewritten-all, row-turn}
+use Rattle.geometry.proofs.Tables.{Rewritten, by_column}
 use Rattle.geometry.proofs.matrix.add_row.Given as goal
 
 abbrev pub invariant-loop-s : goal.invariant-loop-s

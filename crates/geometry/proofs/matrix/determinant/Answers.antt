@@ -1,12 +1,11 @@
-use mathlib.Core.Path.{◌≡◌, refl, sym, ap, ◌∙◌}
-use Prim.Native.Nat.{◌-◌, ◌≤◌, ◌<◌, ◌%◌}
+use mathlib.Core.Path.{refl, sym, ap, ◌∙◌}
+use Prim.Native.Nat.{◌<◌, ◌%◌}
 use native.Mathlib.Omega.{arith}
 use lib.Ieee.{neg}
 use lib.ListN.{length}
 use borrow.Author.Tests.{eq-eqb, ne_eqb}
-use Rattle.geometry.specs.Matrix.{determinant_of, steps_of, signed_of}
+use Rattle.geometry.specs.Matrix.{determinant_of, signed_of}
 use Rattle.geometry.proofs.Steps.{pivot-below, count_most, steps-zero, steps-turn, steps-done, length-swap, length-eliminate}
-use borrow.Author.Rules.{rules}
 use Rattle.geometry.proofs.matrix.determinant.Goals as goal
 
 pub loop-k-init : goal.loop-k-init

@@ -1,12 +1,8 @@
 -- `determinant` meets its contract. The loop keeps that the steps that are left give the determinant of the matrix that came.
-use mathlib.Core.Path.{◌≡◌, refl, sym, ap, ◌∙◌}
-use Prim.Native.Nat.{◌-◌, ◌≤◌, ◌<◌, ◌%◌}
-use native.Mathlib.Omega.{arith}
-use lib.Ieee.{neg}
+use mathlib.Core.Path.{◌≡◌}
+use Prim.Native.Nat.{◌-◌, ◌≤◌}
 use lib.ListN.{length}
-use borrow.Author.Tests.{eq-eqb, ne_eqb}
-use Rattle.geometry.specs.Matrix.{determinant_of, steps_of, signed_of}
-use Rattle.geometry.proofs.Steps.{pivot-below, count_most, steps-zero, steps-turn, steps-done, length-swap, length-eliminate}
+use Rattle.geometry.specs.Matrix.{determinant_of, steps_of}
 use Rattle.geometry.proofs.matrix.determinant.Given as goal
 
 abbrev pub invariant-loop-k : goal.invariant-loop-k

@@ -1,9 +1,7 @@
-use Prim.Native.Nat.{◌-◌, ◌<◌}
 use native.Mathlib.Omega.{arith}
 use Rattle.geometry.specs.Matrix.{eliminate_of}
-use Rattle.geometry.proofs.Tables.{Rewritten, by_row, rewritten-all}
-use Rattle.geometry.proofs.Steps.{lost, lose-none, lose-row}
-use borrow.Author.Rules.{rules}
+use Rattle.geometry.proofs.Tables.{rewritten-all}
+use Rattle.geometry.proofs.Steps.{lose-none, lose-row}
 use Rattle.geometry.proofs.matrix.eliminate_below.Goals as goal
 
 pub loop-i-init : goal.loop-i-init

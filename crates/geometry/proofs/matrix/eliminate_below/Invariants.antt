@@ -1,9 +1,7 @@
 -- `eliminate_below` meets its contract. The rows from `k + 1` to before `i` have lost.
 use Prim.Native.Nat.{◌-◌, ◌<◌}
-use native.Mathlib.Omega.{arith}
-use Rattle.geometry.specs.Matrix.{eliminate_of}
-use Rattle.geometry.proofs.Tables.{Rewritten, by_row, rewritten-all}
-use Rattle.geometry.proofs.Steps.{lost, lose-none, lose-row}
+use Rattle.geometry.proofs.Tables.{Rewritten, by_row}
+use Rattle.geometry.proofs.Steps.{lost}
 use Rattle.geometry.proofs.matrix.eliminate_below.Given as goal
 
 abbrev pub invariant-loop-i : goal.invariant-loop-i

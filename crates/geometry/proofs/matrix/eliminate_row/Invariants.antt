@@ -1,8 +1,7 @@
 -- `eliminate_row` meets its contract. In the columns before `c` row `i` has lost.
-use Prim.Native.Nat.{◌-◌, ◌<◌}
-use native.Mathlib.Omega.{arith}
+use Prim.Native.Nat.{◌-◌}
 use Rattle.geometry.specs.Matrix.{in_row, eliminated_of}
-use Rattle.geometry.proofs.Tables.{Rewritten, by_column, rewritten-start, rewritten-all, row-turn}
+use Rattle.geometry.proofs.Tables.{Rewritten, by_column}
 use Rattle.geometry.proofs.matrix.eliminate_row.Given as goal
 
 abbrev pub invariant-loop-c : goal.invariant-loop-c

@@ -3,7 +3,6 @@ use mathlib.Core.Path.{sym}
 use borrow.Author.Tests.{eq-eqb, ne_eqb}
 use Rattle.geometry.specs.Matrix.{swap_count}
 use Rattle.geometry.proofs.Steps.{swap-none}
-use borrow.Author.Rules.{rules}
 use Rattle.geometry.proofs.matrix.exchange.Goals as goal
 
 pub returns-then-k-p : goal.returns-then-k-p

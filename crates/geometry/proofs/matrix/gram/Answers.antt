@@ -1,13 +1,12 @@
 use mathlib.Core.Path.{◌≡◌, refl, ap, ◌∙◌}
 use mathlib.Core.List.{List}
-use Prim.Native.Nat.{ℕ, ◌-◌, ◌/◌, ◌≤◌}
+use Prim.Native.Nat.{ℕ, ◌/◌}
 use native.Mathlib.Omega.{arith}
 use lib.Ieee.{Float}
 use lib.ListN.{length}
 use Rattle.geometry.specs.Matrix.{table, matrix_of, sum_to, sum_of, add_column_of, gram_of}
 use Rattle.geometry.proofs.Tables.{length-matrix}
 use Rattle.geometry.proofs.Sums.{sums, sums-turn}
-use borrow.Author.Rules.{rules}
 use Rattle.geometry.proofs.matrix.gram.Goals as goal
 
 pub loop-c-init : goal.loop-c-init

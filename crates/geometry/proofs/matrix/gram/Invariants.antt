@@ -1,13 +1,8 @@
 -- `gram` meets its contract. The entries are the sums over the columns before `c`.
-use mathlib.Core.Path.{◌≡◌, refl, ap, ◌∙◌}
-use mathlib.Core.List.{List}
-use Prim.Native.Nat.{ℕ, ◌-◌, ◌/◌, ◌≤◌}
-use native.Mathlib.Omega.{arith}
-use lib.Ieee.{Float}
-use lib.ListN.{length}
-use Rattle.geometry.specs.Matrix.{table, matrix_of, sum_to, sum_of, add_column_of, gram_of}
-use Rattle.geometry.proofs.Tables.{length-matrix}
-use Rattle.geometry.proofs.Sums.{sums, sums-turn}
+use mathlib.Core.Path.{◌≡◌}
+use Prim.Native.Nat.{◌-◌, ◌≤◌}
+use Rattle.geometry.specs.Matrix.{matrix_of}
+use Rattle.geometry.proofs.Sums.{sums}
 use Rattle.geometry.proofs.matrix.gram.Given as goal
 
 abbrev pub invariant-loop-c : goal.invariant-loop-c

@@ -1,7 +1,6 @@
 -- `larger`: each return follows the test, which orders the sizes as the absolute values.
 use Rattle.geometry.specs.Size.{size_below}
 use Rattle.geometry.specs.Matrix.{larger_of}
-use borrow.Author.Rules.{rules}
 use Rattle.geometry.proofs.matrix.larger.Goals as goal
 
 pub returns-then-size : goal.returns-then-size

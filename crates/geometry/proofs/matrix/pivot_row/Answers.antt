@@ -1,9 +1,8 @@
 use mathlib.Core.Path.{◌≡◌, ap, ◌∙◌}
-use Prim.Native.Nat.{◌-◌, ◌≤◌, ◌<◌}
+use Prim.Native.Nat.{◌-◌}
 use native.Mathlib.Omega.{arith}
 use Rattle.geometry.specs.Matrix.{largest_of, pivot_row_of}
 use Rattle.geometry.proofs.Steps.{largest-none, largest-more, larger-below}
-use borrow.Author.Rules.{rules}
 use Rattle.geometry.proofs.matrix.pivot_row.Goals as goal
 
 pub loop-i-init : goal.loop-i-init

@@ -1,9 +1,7 @@
 -- `pivot_row` meets its contract. The loop keeps the row of the largest entry so far.
-use mathlib.Core.Path.{◌≡◌, ap, ◌∙◌}
+use mathlib.Core.Path.{◌≡◌}
 use Prim.Native.Nat.{◌-◌, ◌≤◌, ◌<◌}
-use native.Mathlib.Omega.{arith}
-use Rattle.geometry.specs.Matrix.{largest_of, pivot_row_of}
-use Rattle.geometry.proofs.Steps.{largest-none, largest-more, larger-below}
+use Rattle.geometry.specs.Matrix.{largest_of}
 use Rattle.geometry.proofs.matrix.pivot_row.Given as goal
 
 abbrev pub invariant-loop-i : goal.invariant-loop-i

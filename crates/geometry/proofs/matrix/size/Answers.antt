@@ -1,6 +1,5 @@
 -- `size`: each return follows the test.
 use Rattle.geometry.specs.Size.{size_of}
-use borrow.Author.Rules.{rules}
 use Rattle.geometry.proofs.matrix.size.Goals as goal
 
 pub returns-then-n-x : goal.returns-then-n-x

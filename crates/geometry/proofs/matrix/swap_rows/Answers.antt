@@ -1,9 +1,7 @@
-use Prim.Native.Nat.{◌-◌}
 use native.Mathlib.Omega.{arith}
 use Rattle.geometry.specs.Matrix.{swap_of}
-use Rattle.geometry.proofs.Tables.{Rewritten, by_column, rewritten-start, rewritten-all}
-use Rattle.geometry.proofs.Steps.{swapped, swap-turn}
-use borrow.Author.Rules.{rules}
+use Rattle.geometry.proofs.Tables.{rewritten-start, rewritten-all}
+use Rattle.geometry.proofs.Steps.{swap-turn}
 use Rattle.geometry.proofs.matrix.swap_rows.Goals as goal
 
 pub loop-c-init : goal.loop-c-init

@@ -1,9 +1,7 @@
 -- `swap_rows` meets its contract. The loop has swapped the columns before `c`.
 use Prim.Native.Nat.{◌-◌}
-use native.Mathlib.Omega.{arith}
-use Rattle.geometry.specs.Matrix.{swap_of}
-use Rattle.geometry.proofs.Tables.{Rewritten, by_column, rewritten-start, rewritten-all}
-use Rattle.geometry.proofs.Steps.{swapped, swap-turn}
+use Rattle.geometry.proofs.Tables.{Rewritten, by_column}
+use Rattle.geometry.proofs.Steps.{swapped}
 use Rattle.geometry.proofs.matrix.swap_rows.Given as goal
 
 abbrev pub invariant-loop-c : goal.invariant-loop-c

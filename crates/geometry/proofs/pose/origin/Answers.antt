@@ -1,6 +1,5 @@
 -- `origin` is its definition, with what `zero` and `identity` ensure.
 use Rattle.geometry.specs.Pose.{origin_of}
-use borrow.Author.Rules.{rules}
 use Rattle.geometry.proofs.pose.origin.Goals as goal
 
 pub returns : goal.returns

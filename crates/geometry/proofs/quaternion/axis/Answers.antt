@@ -1,7 +1,6 @@
 -- The code of `axis` is its definition, operation by operation.
 use mathlib.Core.Path.{refl}
 use Rattle.geometry.specs.Quaternion.{axis_of}
-use borrow.Author.Rules.{rules}
 use Rattle.geometry.proofs.quaternion.axis.Goals as goal
 
 pub returns : goal.returns

@@ -1,6 +1,5 @@
 -- `get_quat_y` meets its contract: it is made of what `sine_cosine` answers.
 use Rattle.geometry.specs.Quaternion.{quat_y_of}
-use borrow.Author.Rules.{rules}
 use Rattle.geometry.proofs.quaternion.get_quat_y.Goals as goal
 
 pub returns : goal.returns

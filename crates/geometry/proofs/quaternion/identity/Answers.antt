@@ -1,7 +1,6 @@
 -- The code of `identity` is its definition, operation by operation.
 use mathlib.Core.Path.{refl}
 use Rattle.geometry.specs.Quaternion.{identity_of}
-use borrow.Author.Rules.{rules}
 use Rattle.geometry.proofs.quaternion.identity.Goals as goal
 
 pub returns : goal.returns

@@ -1,7 +1,6 @@
 -- The code of `product` is its definition, operation by operation.
 use mathlib.Core.Path.{refl}
 use Rattle.geometry.specs.Quaternion.{product_of}
-use borrow.Author.Rules.{rules}
 use Rattle.geometry.proofs.quaternion.product.Goals as goal
 
 pub returns : goal.returns

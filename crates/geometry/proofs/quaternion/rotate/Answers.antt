@@ -1,6 +1,5 @@
 -- `rotate`: each call gives what the definition has at its place.
 use Rattle.geometry.specs.Quaternion.{rotate_of}
-use borrow.Author.Rules.{rules}
 use Rattle.geometry.proofs.quaternion.rotate.Goals as goal
 
 pub returns : goal.returns

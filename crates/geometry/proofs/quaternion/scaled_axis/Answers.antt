@@ -1,6 +1,5 @@
 -- `scaled_axis`: each return follows the test of the norm, and each call gives what the definition has at its place.
 use Rattle.geometry.specs.Quaternion.{scaled_axis_of}
-use borrow.Author.Rules.{rules}
 use Rattle.geometry.proofs.quaternion.scaled_axis.Goals as goal
 
 pub returns-then-norm : goal.returns-then-norm

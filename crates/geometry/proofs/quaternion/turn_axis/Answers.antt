@@ -2,7 +2,6 @@
 use mathlib.Core.Path.{◌∙◌, ap}
 use Rattle.geometry.specs.Vector.{negate_of}
 use Rattle.geometry.specs.Quaternion.{turn_axis_of}
-use borrow.Author.Rules.{rules}
 use Rattle.geometry.proofs.quaternion.turn_axis.Goals as goal
 
 pub returns-then-q : goal.returns-then-q

@@ -1,7 +1,6 @@
 -- The code of `twice` is its definition, operation by operation.
 use mathlib.Core.Path.{refl}
 use Rattle.geometry.specs.Quaternion.{twice_of}
-use borrow.Author.Rules.{rules}
 use Rattle.geometry.proofs.quaternion.twice.Goals as goal
 
 pub returns : goal.returns

@@ -1,6 +1,5 @@
 -- `closest`: each return follows the tests before it.
 use Rattle.geometry.specs.Segment.{closest_of}
-use borrow.Author.Rules.{rules}
 use Rattle.geometry.proofs.segment.closest.Goals as goal
 
 pub returns-then-e : goal.returns-then-e

@@ -1,6 +1,5 @@
 -- `distance`: each call gives what the definition has at its place.
 use Rattle.geometry.specs.Segment.{distance_of}
-use borrow.Author.Rules.{rules}
 use Rattle.geometry.proofs.segment.distance.Goals as goal
 
 pub returns : goal.returns

@@ -1,6 +1,5 @@
 -- `ended`: each return follows the tests before it.
 use Rattle.geometry.specs.Segment.{ended_of}
-use borrow.Author.Rules.{rules}
 use Rattle.geometry.proofs.segment.ended.Goals as goal
 
 pub returns-then-t : goal.returns-then-t

@@ -1,6 +1,5 @@
 -- `inner`: each return follows the test of D.
 use Rattle.geometry.specs.Segment.{inner_of}
-use borrow.Author.Rules.{rules}
 use Rattle.geometry.proofs.segment.inner.Goals as goal
 
 pub returns-then-d : goal.returns-then-d

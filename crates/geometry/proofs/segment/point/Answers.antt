@@ -1,6 +1,5 @@
 -- `point`: the sum and the product are what the calls ensure.
 use Rattle.geometry.specs.Segment.{point_of}
-use borrow.Author.Rules.{rules}
 use Rattle.geometry.proofs.segment.point.Goals as goal
 
 pub returns : goal.returns

@@ -1,7 +1,6 @@
 -- The code of `cross` is its definition, operation by operation.
 use mathlib.Core.Path.{refl}
 use Rattle.geometry.specs.Vector.{cross_of}
-use borrow.Author.Rules.{rules}
 use Rattle.geometry.proofs.vector.cross.Goals as goal
 
 pub returns : goal.returns

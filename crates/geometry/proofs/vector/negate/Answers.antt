@@ -1,7 +1,6 @@
 -- The code of `negate` is its definition, operation by operation.
 use mathlib.Core.Path.{refl}
 use Rattle.geometry.specs.Vector.{negate_of}
-use borrow.Author.Rules.{rules}
 use Rattle.geometry.proofs.vector.negate.Goals as goal
 
 pub returns : goal.returns

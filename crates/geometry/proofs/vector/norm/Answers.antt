@@ -1,6 +1,5 @@
 -- `norm` is the root, as `sqrt` ensures it, of the squares' sum.
 use Rattle.geometry.specs.Vector.{norm_of}
-use borrow.Author.Rules.{rules}
 use Rattle.geometry.proofs.vector.norm.Goals as goal
 
 pub returns : goal.returns

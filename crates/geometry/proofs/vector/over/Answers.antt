@@ -1,7 +1,6 @@
 -- The code of `over` is its definition, operation by operation.
 use mathlib.Core.Path.{refl}
 use Rattle.geometry.specs.Vector.{over_of}
-use borrow.Author.Rules.{rules}
 use Rattle.geometry.proofs.vector.over.Goals as goal
 
 pub returns : goal.returns

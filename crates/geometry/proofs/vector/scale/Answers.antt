@@ -1,7 +1,6 @@
 -- The code of `scale` is its definition, operation by operation.
 use mathlib.Core.Path.{refl}
 use Rattle.geometry.specs.Vector.{scale_of}
-use borrow.Author.Rules.{rules}
 use Rattle.geometry.proofs.vector.scale.Goals as goal
 
 pub returns : goal.returns

@@ -1,7 +1,6 @@
 -- The code of `sub` is its definition, operation by operation.
 use mathlib.Core.Path.{refl}
 use Rattle.geometry.specs.Vector.{sub_of}
-use borrow.Author.Rules.{rules}
 use Rattle.geometry.proofs.vector.sub.Goals as goal
 
 pub returns : goal.returns

@@ -1,7 +1,6 @@
 -- The code of `zero` is its definition, operation by operation.
 use mathlib.Core.Path.{refl}
 use Rattle.geometry.specs.Vector.{zero_of}
-use borrow.Author.Rules.{rules}
 use Rattle.geometry.proofs.vector.zero.Goals as goal
 
 pub returns : goal.returns

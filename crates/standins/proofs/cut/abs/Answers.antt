@@ -2,7 +2,6 @@
 use mathlib.Core.Path.{sym, subst}
 use lib.Dec.{T}
 use Rattle.standins.proofs.Size.{size-negative, size-zero, size-positive}
-use borrow.Author.Rules.{rules}
 use Rattle.standins.proofs.cut.abs.Goals as goal
 
 pub returns-then-x : goal.returns-then-x

@@ -1,6 +1,5 @@
 -- `cut` meets its contract: each return follows the tests before it.
 use Rattle.standins.specs.Cut.{cut_of}
-use borrow.Author.Rules.{rules}
 use Rattle.standins.proofs.cut.cut.Goals as goal
 
 pub returns-then-x : goal.returns-then-x

@@ -2,13 +2,11 @@
 use mathlib.Core.Path.{◌≡◌, refl}
 use Prim.Native.Nat.{◌*◌, ◌^◌}
 use lib.Dec.{T, lit<}
-use lib.Ieee.{binary64, fits, of_bits}
+use lib.Ieee.{binary64, of_bits}
 use lib.Ieee.Bits.{of_bits-fits}
 use lib.Ieee.Positive.{positive}
 use Rattle.root.specs.Root.{steps}
-use Rattle.standins.specs.Power.{NearestPth}
 use Rattle.standins.proofs.Pth.{nearest-pth}
-use borrow.Author.Rules.{rules}
 use Rattle.standins.proofs.power.b20.Goals as goal
 
 is_positive : T (positive (of_bits binary64 4606701598290588863))

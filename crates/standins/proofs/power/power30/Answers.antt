@@ -2,7 +2,6 @@
 use mathlib.Core.Path.{refl}
 use Rattle.standins.specs.Series.{down_from, squarings}
 use Rattle.standins.specs.Power.{power30_of}
-use borrow.Author.Rules.{rules}
 use Rattle.standins.proofs.power.power30.Goals as goal
 
 pub returns : goal.returns

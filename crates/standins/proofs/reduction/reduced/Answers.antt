@@ -4,7 +4,6 @@ use mathlib.Core.Bool.{true, false, true≢false, false≢true}
 use lib.Ieee.{Float, nan, inf, fin, lt, neg, of_bits}
 use Rattle.standins.specs.Num.{abs_of}
 use Rattle.standins.specs.Reduction.{unreduced, kept, turned-off}
-use borrow.Author.Rules.{rules}
 use Rattle.standins.proofs.reduction.reduced.Goals as goal
 
 over : (a : Float) → lt unreduced a ≡ true → lt unreduced (abs_of a) ≡ true

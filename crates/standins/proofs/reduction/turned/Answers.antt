@@ -3,7 +3,6 @@ use mathlib.Core.Path.{ap}
 use lib.Ieee.{Float}
 use Rattle.standins.specs.Num.{◌⊖◌, ◌⊗◌}
 use Rattle.standins.specs.Reduction.{turn, turned_of}
-use borrow.Author.Rules.{rules}
 use Rattle.standins.proofs.reduction.turned.Goals as goal
 
 pub returns : goal.returns

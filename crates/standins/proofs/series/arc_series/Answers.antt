@@ -1,11 +1,9 @@
-use mathlib.Core.Path.{◌≡◌, refl}
-use Prim.Native.Nat.{◌-◌, ◌*◌, ◌≤◌, ◌^◌}
+use mathlib.Core.Path.{refl}
+use Prim.Native.Nat.{◌-◌, ◌*◌, ◌^◌}
 use native.Mathlib.Omega.{arith}
 use lib.Dec.{le→leb}
 use lib.Ieee.{in_float, of_int, of_bits}
-use Rattle.standins.specs.Num.{◌⊗◌}
-use Rattle.standins.specs.Series.{down_from, arc_term_of, arc_series_of, down_turn, down-done}
-use borrow.Author.Rules.{rules}
+use Rattle.standins.specs.Series.{arc_term_of, arc_series_of, down_turn, down-done}
 use Rattle.standins.proofs.series.arc_series.Goals as goal
 
 pub loop-n-init : goal.loop-n-init

@@ -1,11 +1,8 @@
 -- `arc_series` meets its contract: what is left of the loop makes the whole of what is reached.
-use mathlib.Core.Path.{◌≡◌, refl}
-use Prim.Native.Nat.{◌-◌, ◌*◌, ◌≤◌, ◌^◌}
-use native.Mathlib.Omega.{arith}
-use lib.Dec.{le→leb}
-use lib.Ieee.{in_float, of_int, of_bits}
+use mathlib.Core.Path.{◌≡◌}
+use Prim.Native.Nat.{◌≤◌}
 use Rattle.standins.specs.Num.{◌⊗◌}
-use Rattle.standins.specs.Series.{down_from, arc_term_of, arc_series_of, down_turn, down-done}
+use Rattle.standins.specs.Series.{down_from, arc_term_of, arc_series_of}
 use Rattle.standins.proofs.series.arc_series.Given as goal
 
 abbrev pub invariant-loop-n : goal.invariant-loop-n

@@ -1,6 +1,5 @@
 -- `atan2` meets its contract: each way is the angle of its own quotient.
 use Rattle.standins.specs.Series.{atan2_of}
-use borrow.Author.Rules.{rules}
 use Rattle.standins.proofs.series.atan2.Goals as goal
 
 pub returns-then-n-w : goal.returns-then-n-w

@@ -1,8 +1,6 @@
 use mathlib.Core.Path.{◌≡◌, refl}
-use Prim.Native.Nat.{◌≤◌}
 use native.Mathlib.Omega.{arith}
-use Rattle.standins.specs.Series.{down_from, term_of, series_of, sine_divisor, cosine_divisor, term-turn, down-done}
-use borrow.Author.Rules.{rules}
+use Rattle.standins.specs.Series.{term_of, series_of, sine_divisor, cosine_divisor, term-turn, down-done}
 use Rattle.standins.proofs.series.both_series.Goals as goal
 
 pub loop-n-init : goal.loop-n-init

@@ -1,8 +1,7 @@
 -- `both_series` meets its contract: each series of the reduced angle goes by the one law of a loop that counts down.
-use mathlib.Core.Path.{◌≡◌, refl}
+use mathlib.Core.Path.{◌≡◌}
 use Prim.Native.Nat.{◌≤◌}
-use native.Mathlib.Omega.{arith}
-use Rattle.standins.specs.Series.{down_from, term_of, series_of, sine_divisor, cosine_divisor, term-turn, down-done}
+use Rattle.standins.specs.Series.{down_from, term_of, series_of, sine_divisor, cosine_divisor}
 use Rattle.standins.proofs.series.both_series.Given as goal
 
 abbrev pub invariant-loop-n : goal.invariant-loop-n

@@ -1,6 +1,5 @@
 -- `cos` meets its contract: by what both series ensure.
 use Rattle.standins.specs.Series.{cosine_series_of, cosine_of}
-use borrow.Author.Rules.{rules}
 use Rattle.standins.proofs.series.cos.Goals as goal
 
 pub returns : goal.returns

@@ -1,10 +1,8 @@
 -- `divisor` meets its contract: the product is a whole number that an f64 holds.
-use mathlib.Core.Path.{refl}
 use native.Mathlib.Omega.{arith}
 use lib.Dec.{le→leb}
 use lib.Ieee.{in_float}
 use Rattle.standins.specs.Series.{divisor-most}
-use borrow.Author.Rules.{rules}
 use Rattle.standins.proofs.series.divisor.Goals as goal
 
 pub overflow_mul-result : goal.overflow_mul-result

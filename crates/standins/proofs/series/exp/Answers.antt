@@ -3,7 +3,6 @@ use mathlib.Core.Path.{◌≡◌, refl, ap, ◌∙◌}
 use lib.Ieee.{binary64, of_int, of_bits}
 use Rattle.standins.specs.Num.{whole, nought-over-nought}
 use Rattle.standins.specs.Series.{squarings, exp_of}
-use borrow.Author.Rules.{rules}
 use Rattle.standins.proofs.series.exp.Goals as goal
 
 least : of_bits binary64 0x4085_e000_0000_0000 ≡ whole 700

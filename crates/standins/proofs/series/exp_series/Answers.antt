@@ -1,10 +1,9 @@
-use mathlib.Core.Path.{◌≡◌, refl}
-use Prim.Native.Nat.{◌≤◌, ◌^◌}
+use mathlib.Core.Path.{refl}
+use Prim.Native.Nat.{◌^◌}
 use native.Mathlib.Omega.{arith}
 use lib.Dec.{le→leb}
 use lib.Ieee.{in_float}
-use Rattle.standins.specs.Series.{down_from, exp_term_of, exp_series_of, down_turn, down-done}
-use borrow.Author.Rules.{rules}
+use Rattle.standins.specs.Series.{exp_term_of, exp_series_of, down_turn, down-done}
 use Rattle.standins.proofs.series.exp_series.Goals as goal
 
 pub loop-n-init : goal.loop-n-init

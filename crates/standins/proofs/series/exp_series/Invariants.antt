@@ -1,10 +1,7 @@
 -- `exp_series` meets its contract: what is left of the loop makes the whole of what is reached.
-use mathlib.Core.Path.{◌≡◌, refl}
-use Prim.Native.Nat.{◌≤◌, ◌^◌}
-use native.Mathlib.Omega.{arith}
-use lib.Dec.{le→leb}
-use lib.Ieee.{in_float}
-use Rattle.standins.specs.Series.{down_from, exp_term_of, exp_series_of, down_turn, down-done}
+use mathlib.Core.Path.{◌≡◌}
+use Prim.Native.Nat.{◌≤◌}
+use Rattle.standins.specs.Series.{down_from, exp_term_of, exp_series_of}
 use Rattle.standins.proofs.series.exp_series.Given as goal
 
 abbrev pub invariant-loop-n : goal.invariant-loop-n

@@ -1,6 +1,5 @@
 -- `halved` meets its contract: by what the root ensures.
 use Rattle.standins.specs.Series.{halved_of}
-use borrow.Author.Rules.{rules}
 use Rattle.standins.proofs.series.halved.Goals as goal
 
 pub returns : goal.returns

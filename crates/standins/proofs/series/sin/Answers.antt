@@ -1,6 +1,5 @@
 -- `sin` meets its contract: by what both series ensure.
 use Rattle.standins.specs.Series.{sine_series_of, sine_of}
-use borrow.Author.Rules.{rules}
 use Rattle.standins.proofs.series.sin.Goals as goal
 
 pub returns : goal.returns

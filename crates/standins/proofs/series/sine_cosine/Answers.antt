@@ -1,6 +1,5 @@
 -- `sine_cosine` meets its contract: by what both series ensure.
 use Rattle.standins.specs.Series.{sine_series_of, cosine_series_of, sine_of, cosine_of}
-use borrow.Author.Rules.{rules}
 use Rattle.standins.proofs.series.sine_cosine.Goals as goal
 
 pub returns : goal.returns

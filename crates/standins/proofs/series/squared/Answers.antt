@@ -1,7 +1,5 @@
-use mathlib.Core.Path.{◌≡◌, refl}
 use native.Mathlib.Omega.{arith}
-use Rattle.standins.specs.Series.{down_from, squarings, down_turn, down-done}
-use borrow.Author.Rules.{rules}
+use Rattle.standins.specs.Series.{squarings, down_turn, down-done}
 use Rattle.standins.proofs.series.squared.Goals as goal
 
 pub loop-k-preserved : goal.loop-k-preserved

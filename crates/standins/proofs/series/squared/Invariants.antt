@@ -1,7 +1,6 @@
 -- `squared` meets its contract: what is left of the loop makes the whole of what is reached.
-use mathlib.Core.Path.{◌≡◌, refl}
-use native.Mathlib.Omega.{arith}
-use Rattle.standins.specs.Series.{down_from, squarings, down_turn, down-done}
+use mathlib.Core.Path.{◌≡◌}
+use Rattle.standins.specs.Series.{squarings}
 use Rattle.standins.proofs.series.squared.Given as goal
 
 abbrev pub invariant-loop-k : goal.invariant-loop-k
