@@ -1,8 +1,8 @@
 -- What the objective and its gradients ask of what is lent to them, and their refusals.
-use Rattle.std.specs.Prelude.{◌≡◌, refl, List, ℕ, zero, suc, ◌+◌, ◌*◌, ◌≤◌, ◌<◌, Float, length, get_or}
+use Rattle.std.specs.Prelude.{◌≡◌, List, ℕ, ◌≤◌, Float, length}
 use Rattle.std.proofs.Common.{sym, ◌∙◌, arith}
 use Rattle.lists.specs.Splice.{splice}
-use Rattle.sheet.specs.Chain.{chain_start, chain-start-next, joint-le, joints, chain_length}
+use Rattle.sheet.specs.Chain.{joints}
 use Rattle.lists.specs.Lent.{LentOutput, output_lent}
 use Rattle.task.specs.Task.{task_length}
 use Rattle.self_collision.specs.Pairs.{Paired, paired_is}

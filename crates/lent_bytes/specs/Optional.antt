@@ -1,6 +1,6 @@
 -- A list of floats that may be left out. Left out is one without a byte alone: a ragged list, and one longer than any that is taken, is of a wrong length.
 use Rattle.std.specs.Prelude.{◌≡◌, refl, Bool, true, false, cond, List, ℕ, ◌*◌, ◌/◌, ◌%◌, ◌≤◌, ◌<◌, eqb, ltb, length}
-use Rattle.std.proofs.Common.{sym, ap, ◌∙◌, ⊎_elim, arith, eq-eqb, ne_eqb, lt-ltb, le-ltb, eqb-true}
+use Rattle.std.proofs.Common.{ap, ⊎_elim, arith, eq-eqb, ne_eqb, lt-ltb, le-ltb, eqb-true}
 use Rattle.lent_bytes.specs.Lent.{count_in, Misfit, count_under}
 use Rattle.lent_bytes.specs.declared.optional.Optional.{Optional}
 use Rattle.lent_bytes.specs.declared.optional.Optional.TheVariants.{Empty, Floats, WrongLength}

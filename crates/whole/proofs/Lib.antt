@@ -1,2 +1,3 @@
+pub mod Nearest
 pub mod Raised
 pub mod Result

@@ -17,7 +17,7 @@ use Rattle.whole.specs.Whole.{signed, whole_of}
 use Rattle.whole.specs.Halves.{closest-one}
 use Rattle.whole.specs.Fits.{fits-says}
 use Rattle.whole.specs.Sizes.{says, denies}
-use Rattle.whole.specs.Nearest.{closest-zero, halved, nearest-held}
+use Rattle.whole.proofs.Nearest.{closest-zero, halved, nearest-held}
 use Rattle.whole.proofs.Raised.{p52, raised, down-plus, up-minus}
 
 -- ---- a size of 2 ^ 52 or more

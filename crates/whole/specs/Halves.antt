@@ -1,14 +1,13 @@
 -- `closest n d`, the whole number nearest to n / d: within a half of it, even at a half, and so no whole number is nearer.
 use Rattle.std.specs.Prelude.{◌≡◌, ◌⊎◌, Bool, true, false, not, T, eqb, leb}
-use Rattle.std.proofs.Common.{sym, ap, ◌∙◌, subst, inl, inr, mod-lt, suc-mul, mul-le-mul_right, div-add-mod', le_refl, le_of_eq, le_trans, div-lt_iff_lt-mul, arith, leb→le, eqb→eq}
-use Prim.Native.Nat.{ℕ, zero, suc, ◌+◌, ◌-◌, ◌*◌, ◌/◌, ◌%◌, ◌≤◌, ◌<◌, compare, Ordering}
+use Rattle.std.proofs.Common.{ap, ◌∙◌, subst, inl, inr, mod-lt, suc-mul, div-add-mod', le_refl, le_trans, div-lt_iff_lt-mul, arith, leb→le, eqb→eq}
+use Prim.Native.Nat.{ℕ, zero, suc, ◌+◌, ◌*◌, ◌/◌, ◌%◌, ◌≤◌, ◌<◌, compare, Ordering}
 use Rattle.std.proofs.Math.Nat.{add-mul-div_right, add-mul-mod_self_right}
 use Rattle.std.proofs.Math.Arith.{lt_of_le-ne}
 use Rattle.std.proofs.Math.Dec.{is_le, compare_is_eq, eqb_refl, nleb→lt}
 use Rattle.std.specs.Float.Ieee.{nearest}
 use Rattle.std.specs.Float.Ieee.Fits.{nearest-le}
 use Rattle.std.specs.Float.Ieee.Nearest.{closest}
-use Rattle.whole.specs.Whole.{apart, NearestTo}
 
 -- ---- what `compare` says
 abbrev Cmp : Ordering → ℕ → ℕ → Type 0
@@ -81,35 +80,6 @@ sorted j k = go (leb j k) (leb→le j k) (nleb→lt j k) (eqb j k) (eqb→eq j k
     go b l g true e n = inl (e tt)
     go true l g false e n = inr (inl (lt_of_le-ne (l tt) n))
     go false l g false e n = inr (inr (g tt))
-
--- the next whole number is d further on
-gap : (i j d : ℕ) → i < j → i * d + d ≤ j * d
-gap i j d h = subst (λ (x : ℕ). x ≤ j * d) (suc-mul i d) (mul-le-mul_right d h)
-
-pub nearest-to : (n d k : ℕ) → 0 < d → Halves n d k → NearestTo n d k
-nearest-to n d k D h = record { least = λ j. least j (sorted j k); even = λ j. even j (sorted j k) }
-  where
-    least : (j : ℕ) → (j ≡ k) ⊎ ((j < k) ⊎ (k < j)) → apart n (k * d) ≤ apart n (j * d)
-    least j (inl e) = le_of_eq (ap (λ (i : ℕ). apart n (i * d)) (sym e))
-    least j (inr (inl l)) = below n (k * d) (j * d) d h.over (gap j k d l)
-      where
-        below : (n K J d : ℕ) → 2 * K ≤ 2 * n + d → J + d ≤ K → n - K + (K - n) ≤ n - J + (J - n)
-        below n K J d a b = omega arith
-    least j (inr (inr l)) = above n (k * d) (j * d) d h.under (gap k j d l)
-      where
-        above : (n K J d : ℕ) → 2 * n ≤ 2 * K + d → K + d ≤ J → n - K + (K - n) ≤ n - J + (J - n)
-        above n K J d a b = omega arith
-
-    even : (j : ℕ) → (j ≡ k) ⊎ ((j < k) ⊎ (k < j)) → (j ≡ k → ⊥) → apart n (k * d) ≡ apart n (j * d) → k % 2 ≡ 0
-    even j (inl e) f t = absurd (f e)
-    even j (inr (inl l)) f t = h.even-over (below n (k * d) (j * d) d D h.over (gap j k d l) t)
-      where
-        below : (n K J d : ℕ) → 0 < d → 2 * K ≤ 2 * n + d → J + d ≤ K → n - K + (K - n) ≡ n - J + (J - n) → 2 * K ≡ 2 * n + d
-        below n K J d D a b t = omega arith
-    even j (inr (inr l)) f t = h.even-under (above n (k * d) (j * d) d D h.under (gap k j d l) t)
-      where
-        above : (n K J d : ℕ) → 0 < d → 2 * n ≤ 2 * K + d → K + d ≤ J → n - K + (K - n) ≡ n - J + (J - n) → 2 * n ≡ 2 * K + d
-        above n K J d D a b t = omega arith
 
 -- ---- 2 ^ 52 more, which is even
 shifted : (q : ℕ) (o : Ordering) → nearest (q + 4503599627370496) o ≡ 4503599627370496 + nearest q o

@@ -2,4 +2,3 @@ pub mod Whole
 pub mod Fits
 pub mod Halves
 pub mod Sizes
-pub mod Nearest

@@ -3,7 +3,7 @@ use mathlib.Core.Path.{◌≡◌, sym, subst}
 use lib.Dec.{T}
 use lib.Ieee.{Float, binary64, fits, of_bits}
 use Rattle.whole.specs.Whole.{whole_of, IsNearestWhole}
-use Rattle.whole.specs.Nearest.{is-nearest}
+use Rattle.whole.proofs.Nearest.{is-nearest}
 use Rattle.whole.proofs.Result.{over-test, under-test, minus-test, plus-test}
 use Rattle.whole.proofs.nearest_whole.Goals as goal
 

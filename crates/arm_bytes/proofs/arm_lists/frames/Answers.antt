@@ -17,7 +17,6 @@ use Rattle.lent_bytes.specs.Lent.{Front, room_in, bytes_of}
 use Rattle.lent_bytes.specs.SheetLists.{SheetLists, sheet_with, same-two}
 use Rattle.arm_bytes.specs.ArmCalls.{frames_number, frame_positions, frame_rotations}
 use Rattle.arm_bytes.specs.ArmLaws.{sheet-accepted, frames-number, bytes_fit, frame-positions-length, frame-rotations-length, made}
-use borrow.Author.Rules.{rules}
 use Rattle.arm_bytes.proofs.arm_lists.frames.Goals as goal
 
 pub returns-then-load-ne0 : goal.returns-then-load-ne0

@@ -16,7 +16,6 @@ use Rattle.lent_bytes.specs.Lent.{room_in, bytes_of}
 use Rattle.lent_bytes.specs.SheetLists.{SheetLists, sheet_with, same-two}
 use Rattle.arm_bytes.specs.ArmCalls.{manipulability_number, manipulability_value}
 use Rattle.arm_bytes.specs.ArmLaws.{sheet-accepted, bytes_fit}
-use borrow.Author.Rules.{rules}
 use Rattle.arm_bytes.proofs.arm_lists.manipulability.Goals as goal
 
 pub returns-then-load-ne0 : goal.returns-then-load-ne0

@@ -7,7 +7,6 @@ use lib.ListN.{length, length-append}
 use Rattle.lists.specs.Splice.{splice}
 use Rattle.lent_bytes.specs.Lent.{bytes_of, bytes-then}
 use Rattle.arm_bytes.specs.ArmCalls.{reset_blocks}
-use borrow.Author.Rules.{rules}
 use Rattle.arm_bytes.proofs.arm_lists.put_four.Goals as goal
 
 pub returns : goal.returns

@@ -7,7 +7,6 @@ use Rattle.refusals.specs.Passed.{room-passed}
 use Rattle.calls.specs.Arms.{taken, refused}
 use Rattle.sizing.specs.Sizing.{plan_list}
 use Rattle.lent_bytes.specs.Lent.{number_room_in, number-room-within}
-use borrow.Author.Rules.{rules}
 use Rattle.arm_bytes.proofs.arm_lists.put_plan.Goals as goal
 
 pub returns-then-nine-ne0 : goal.returns-then-nine-ne0

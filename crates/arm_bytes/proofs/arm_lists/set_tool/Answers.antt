@@ -4,7 +4,6 @@ use native.Mathlib.Omega.{arith}
 use Rattle.refusals.specs.Lowest.{first-zero, first_some}
 use Rattle.refusals.specs.Passed.{load-passed}
 use Rattle.arm_bytes.specs.ArmCalls.{set_tool_number}
-use borrow.Author.Rules.{rules}
 use Rattle.arm_bytes.proofs.arm_lists.set_tool.Goals as goal
 
 pub returns-then-load-ne0 : goal.returns-then-load-ne0

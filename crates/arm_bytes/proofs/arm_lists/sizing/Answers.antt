@@ -8,7 +8,6 @@ use Rattle.sizing.specs.declared.plan.Plan.{Plan}
 use Rattle.sizing.specs.Sizing.{Small, sheet_plan, plan_list, plan-small, planned-is, refused-is}
 use Rattle.lent_bytes.specs.Lent.{bytes_of_numbers}
 use Rattle.arm_bytes.specs.ArmCalls.{sizing_number, plan_numbers}
-use borrow.Author.Rules.{rules}
 use Rattle.arm_bytes.proofs.arm_lists.sizing.Goals as goal
 
 pub put_plan-requires : goal.put_plan-requires

@@ -1,6 +1,5 @@
 -- `frames` meets its contract: by what its calls ensure of the decoded lists.
 use Rattle.lent_bytes.specs.SheetLists.{sheet-held}
-use borrow.Author.Rules.{rules}
 use Rattle.arm_bytes.proofs.arms.frames.Goals as goal
 
 pub returns : goal.returns

@@ -2,7 +2,6 @@
 use mathlib.Core.Path.{ap, ◌∙◌}
 use Rattle.lent_bytes.specs.SheetLists.{sheet-held}
 use Rattle.arm_bytes.specs.ArmCalls.{load_number}
-use borrow.Author.Rules.{rules}
 use Rattle.arm_bytes.proofs.arms.load.Goals as goal
 
 pub returns : goal.returns

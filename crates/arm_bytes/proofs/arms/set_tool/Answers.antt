@@ -1,6 +1,5 @@
 -- `set_tool` meets its contract: by what its calls ensure of the decoded lists.
 use Rattle.lent_bytes.specs.SheetLists.{sheet-held}
-use borrow.Author.Rules.{rules}
 use Rattle.arm_bytes.proofs.arms.set_tool.Goals as goal
 
 pub returns : goal.returns

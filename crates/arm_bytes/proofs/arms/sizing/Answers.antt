@@ -1,6 +1,5 @@
 -- `sizing` meets its contract: by what its calls ensure of the decoded lists.
 
-use borrow.Author.Rules.{rules}
 use Rattle.arm_bytes.proofs.arms.sizing.Goals as goal
 
 pub returns : goal.returns

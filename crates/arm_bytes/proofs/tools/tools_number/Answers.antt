@@ -2,7 +2,6 @@
 use mathlib.Core.Path.{ap, ◌∙◌}
 use Prim.Native.Nat.{ℕ}
 use Rattle.refusals.specs.Refusal.{tools_refusal}
-use borrow.Author.Rules.{rules}
 use Rattle.arm_bytes.proofs.tools.tools_number.Goals as goal
 
 pub returns : goal.returns

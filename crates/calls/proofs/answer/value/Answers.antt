@@ -1,6 +1,5 @@
 -- `value` meets its contract: case by case.
 use Rattle.standins.specs.Num.{nought-over-nought}
-use borrow.Author.Rules.{rules}
 use Rattle.calls.proofs.answer.value.Goals as goal
 
 pub returns-in-Refused : goal.returns-in-Refused

@@ -9,7 +9,6 @@ use Rattle.refusals.specs.Lengths.{positions_length, rotations_length, positions
 use Rattle.refusals.specs.Refusal.{block_refusal}
 use Rattle.calls.specs.Arms.{sheet-of, walked, taken, refused}
 use Rattle.calls.specs.Frames.{frames_refusal, frames-passed}
-use borrow.Author.Rules.{rules}
 use Rattle.calls.proofs.frames.frames.Goals as goal
 
 pub frames_refusal-number-requires : goal.frames_refusal-number-requires

@@ -9,7 +9,6 @@ use Rattle.refusals.specs.Lengths.{ends_length}
 use Rattle.refusals.specs.Refusal.{block_refusal}
 use Rattle.calls.specs.Arms.{sheet-of, walked, taken, refused}
 use Rattle.calls.specs.Frames.{pose_refusal, pose-passed}
-use borrow.Author.Rules.{rules}
 use Rattle.calls.proofs.frames.pose.Goals as goal
 
 pub returns-then-number-ne0 : goal.returns-then-number-ne0

@@ -1,6 +1,5 @@
 -- `pose_refusal` meets its contract: by what its calls ensure.
 use Rattle.calls.specs.Frames.{pose_refusal}
-use borrow.Author.Rules.{rules}
 use Rattle.calls.proofs.frames.pose_refusal.Goals as goal
 
 pub returns : goal.returns

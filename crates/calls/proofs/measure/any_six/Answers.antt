@@ -1,14 +1,13 @@
 use mathlib.Core.Path.{◌≡◌, refl, sym, ap, ◌∙◌}
 use mathlib.Core.Bool.{not}
-use Prim.Native.Nat.{ℕ, ◌+◌, ◌-◌, ◌≤◌}
+use Prim.Native.Nat.{ℕ, ◌+◌, ◌≤◌}
 use native.Mathlib.Omega.{arith}
 use lib.Dec.{ltb}
 use lib.ListN.{length, get_or}
-use Rattle.sheet.specs.Chain.{chain_start, joint_of, joint-zero}
+use Rattle.sheet.specs.Chain.{chain_start, joint-zero}
 use Rattle.refusals.specs.Range.{every, every-none, every-turn}
 use Rattle.sheet.specs.ChainTurn.{next-link, links-inside, next-joint, joint-grows, length-here}
 use Rattle.calls.specs.Six.{under_six, any_six}
-use borrow.Author.Rules.{rules}
 use Rattle.calls.proofs.measure.any_six.Goals as goal
 
 pub loop-c-init : goal.loop-c-init

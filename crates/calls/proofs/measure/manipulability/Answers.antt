@@ -3,7 +3,6 @@ use mathlib.Core.Path.{◌≡◌, refl, sym, ◌∙◌}
 use native.Mathlib.Omega.{arith}
 use lib.Ieee.{nan}
 use lib.ListN.{length}
-use borrow.Author.Tests.{not-true}
 use Rattle.standins.specs.Num.{nought}
 use Rattle.manipulability.specs.View.{view-list}
 use Rattle.manipulability.specs.Jacobian.{manipulability-ext}
@@ -11,7 +10,6 @@ use Rattle.refusals.specs.Refusal.{block_refusal}
 use Rattle.calls.specs.Arms.{sheet-of, walked}
 use Rattle.calls.specs.Answer.{value_taken, value-refused, answer-taken, answer-refused}
 use Rattle.calls.specs.Six.{none-six}
-use borrow.Author.Rules.{rules}
 use Rattle.calls.proofs.measure.manipulability.Goals as goal
 
 pub returns-then-number-ne0 : goal.returns-then-number-ne0

@@ -1,6 +1,5 @@
 -- `still_under` meets its contract: each return follows the test.
 
-use borrow.Author.Rules.{rules}
 use Rattle.calls.proofs.measure.still_under.Goals as goal
 
 pub returns-then-under : goal.returns-then-under

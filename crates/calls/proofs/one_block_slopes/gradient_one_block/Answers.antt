@@ -7,7 +7,6 @@ use Rattle.calls.specs.Arms.{taken, refused}
 use Rattle.calls.specs.Answer.{value_taken, value-refused, answer-taken, answer-refused}
 use Rattle.calls.specs.AcceptedTask.{ready_of}
 use Rattle.calls.specs.OneBlock.{one_block_refusal, one-block-passed}
-use borrow.Author.Rules.{rules}
 use Rattle.calls.proofs.one_block_slopes.gradient_one_block.Goals as goal
 
 pub one_block_refusal-number-requires : goal.one_block_refusal-number-requires

@@ -1,7 +1,6 @@
 -- `one_block_refusal` meets its contract: by what its calls ensure.
 use native.Mathlib.Omega.{arith}
 use Rattle.calls.specs.OneBlock.{one_block_refusal, entries-most}
-use borrow.Author.Rules.{rules}
 use Rattle.calls.proofs.one_block_slopes.one_block_refusal.Goals as goal
 
 pub entries-entries-requires : goal.entries-entries-requires

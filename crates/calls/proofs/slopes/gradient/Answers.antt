@@ -6,7 +6,6 @@ use lib.ListN.{length}
 use Rattle.calls.specs.Arms.{taken, refused}
 use Rattle.calls.specs.Answer.{value_taken, value-refused, answer-taken, answer-refused}
 use Rattle.calls.specs.AcceptedTask.{slopes_refusal, ready_of, slopes-passed}
-use borrow.Author.Rules.{rules}
 use Rattle.calls.proofs.slopes.gradient.Goals as goal
 
 pub returns-then-number-ne0 : goal.returns-then-number-ne0

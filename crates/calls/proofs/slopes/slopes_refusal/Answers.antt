@@ -1,6 +1,5 @@
 -- `slopes_refusal` meets its contract: by what its calls ensure.
 use Rattle.calls.specs.AcceptedTask.{slopes_refusal}
-use borrow.Author.Rules.{rules}
 use Rattle.calls.proofs.slopes.slopes_refusal.Goals as goal
 
 pub returns : goal.returns

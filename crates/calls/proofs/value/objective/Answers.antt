@@ -4,7 +4,6 @@ use lib.Ieee.{nan}
 use Rattle.refusals.specs.Refusal.{block_refusal}
 use Rattle.calls.specs.Answer.{value_taken, value-refused, answer-taken, answer-refused}
 use Rattle.calls.specs.AcceptedTask.{ready_of}
-use borrow.Author.Rules.{rules}
 use Rattle.calls.proofs.value.objective.Goals as goal
 
 pub returns-then-number-ne0 : goal.returns-then-number-ne0

@@ -4,7 +4,6 @@ use borrow.Author.Tests.{eq-eqb, ne_eqb}
 use Rattle.standins.specs.Num.{nought-over-nought}
 use Rattle.geometry.specs.Matrix.{determinant_of}
 use Rattle.exports.specs.Matrices.{determinant_in}
-use borrow.Author.Rules.{rules}
 use Rattle.exports.proofs.matrices.relaxed_ik_determinant.Goals as goal
 
 pub returns-then-rows-ne288 : goal.returns-then-rows-ne288

@@ -12,7 +12,6 @@ use Rattle.standins.specs.Num.{nought-over-nought}
 use Rattle.geometry.specs.Matrix.{gram_of}
 use Rattle.lent_bytes.specs.Bytes.{float_at}
 use Rattle.exports.specs.Matrices.{columns_in, gram_entry}
-use borrow.Author.Rules.{rules}
 use Rattle.exports.proofs.matrices.relaxed_ik_gram.Goals as goal
 
 pub returns-then-size-ne0 : goal.returns-then-size-ne0

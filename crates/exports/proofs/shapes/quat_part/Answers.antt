@@ -2,7 +2,6 @@
 use borrow.Author.Tests.{eq-eqb, ne_eqb}
 use Rattle.standins.specs.Num.{nought-over-nought}
 use Rattle.exports.specs.Parts.{quat_part}
-use borrow.Author.Rules.{rules}
 use Rattle.exports.proofs.shapes.quat_part.Goals as goal
 
 pub returns-then-part-eq0 : goal.returns-then-part-eq0

@@ -2,7 +2,6 @@
 use borrow.Author.Tests.{eq-eqb, ne_eqb}
 use Rattle.standins.specs.Num.{nought-over-nought}
 use Rattle.exports.specs.Parts.{get_quat_part}
-use borrow.Author.Rules.{rules}
 use Rattle.exports.proofs.shapes.relaxed_ik_get_quat.Goals as goal
 
 pub returns-then-axis-eq0 : goal.returns-then-axis-eq0

@@ -9,7 +9,6 @@ use Rattle.task.specs.Task.{Given, given_of}
 use Rattle.gradient.specs.Gradient.{value_at, slopes_of}
 use Rattle.gradient.specs.Ready.{Ready}
 use Rattle.gradient.specs.Made.{copied-front, front_kept}
-use borrow.Author.Rules.{rules}
 use Rattle.gradient.proofs.gradient.gradient.Goals as goal
 
 pub slice_bounds-gradient_on-end-2 : goal.slice_bounds-gradient_on-end-2

@@ -6,7 +6,6 @@ use Rattle.task.specs.Task.{Given, given_of}
 use Rattle.objective_master.specs.Kinds.{kinds-length}
 use Rattle.gradient.specs.Ready.{KindsListed, kinds-most, kinds-listed}
 use Rattle.gradient.specs.Made.{losses-front}
-use borrow.Author.Rules.{rules}
 use Rattle.gradient.proofs.gradient.gradient_on.Goals as goal
 
 pub relaxed_ik-n-requires : goal.relaxed_ik-n-requires

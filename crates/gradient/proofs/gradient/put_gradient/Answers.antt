@@ -1,6 +1,6 @@
 use mathlib.Core.Path.{◌≡◌, refl, sym, ap, subst, ◌∙◌}
 use mathlib.Core.List.{List}
-use Prim.Native.Nat.{ℕ, ◌-◌, ◌≤◌, ◌<◌}
+use Prim.Native.Nat.{ℕ, ◌<◌}
 use native.Mathlib.Omega.{arith}
 use lib.Ieee.{Float}
 use lib.ListN.{length, length-set}
@@ -9,7 +9,6 @@ use Rattle.lists.specs.Listed.{listed, listed-none, listed-turn}
 use Rattle.task.specs.Task.{Given, given_of}
 use Rattle.gradient.specs.Gradient.{slope_at, slopes_of, value_at, losses_at}
 use Rattle.gradient.specs.Ready.{Ready}
-use borrow.Author.Rules.{rules}
 use Rattle.gradient.proofs.gradient.put_gradient.Goals as goal
 
 pub loop-joint-init : goal.loop-joint-init

@@ -1,15 +1,11 @@
 -- `put_gradient` meets its contract: turn after turn one slope more, and the block as it came.
-use mathlib.Core.Path.{◌≡◌, refl, sym, ap, subst, ◌∙◌}
-use mathlib.Core.List.{List}
-use Prim.Native.Nat.{ℕ, ◌-◌, ◌≤◌, ◌<◌}
-use native.Mathlib.Omega.{arith}
-use lib.Ieee.{Float}
-use lib.ListN.{length, length-set}
+use mathlib.Core.Path.{◌≡◌}
+use Prim.Native.Nat.{◌-◌, ◌≤◌}
+use lib.ListN.{length}
 use Rattle.lists.specs.Splice.{splice}
-use Rattle.lists.specs.Listed.{listed, listed-none, listed-turn}
-use Rattle.task.specs.Task.{Given, given_of}
-use Rattle.gradient.specs.Gradient.{slope_at, slopes_of, value_at, losses_at}
-use Rattle.gradient.specs.Ready.{Ready}
+use Rattle.lists.specs.Listed.{listed}
+use Rattle.task.specs.Task.{given_of}
+use Rattle.gradient.specs.Gradient.{slope_at}
 use Rattle.gradient.proofs.gradient.put_gradient.Given as goal
 
 abbrev pub invariant-loop-joint : goal.invariant-loop-joint

@@ -10,7 +10,6 @@ use Rattle.gradient.specs.Slopes.{step_of, slope_by}
 use Rattle.gradient.specs.Gradient.{losses_at, raised_by}
 use Rattle.gradient.specs.Ready.{ready-other}
 use Rattle.gradient.specs.Made.{raised-length, put_back, losses-front, as_many, slope-made}
-use borrow.Author.Rules.{rules}
 use Rattle.gradient.proofs.gradient.slope.Goals as goal
 
 pub losses_of-requires : goal.losses_of-requires

@@ -1,11 +1,10 @@
 use mathlib.Core.Path.{◌≡◌, refl, ap, ◌∙◌}
-use Prim.Native.Nat.{ℕ, ◌-◌, ◌≤◌}
+use Prim.Native.Nat.{ℕ}
 use native.Mathlib.Omega.{arith}
-use lib.ListN.{length, length-set}
+use lib.ListN.{length-set}
 use Rattle.lists.specs.Splice.{splice}
 use Rattle.lists.specs.Listed.{listed, listed-none, listed-turn}
 use Rattle.gradient.specs.Slopes.{slope_between, loss-left, slope-made}
-use borrow.Author.Rules.{rules}
 use Rattle.gradient.proofs.slopes.put_slopes.Goals as goal
 
 pub loop-i-init : goal.loop-i-init

@@ -1,11 +1,10 @@
 -- `put_slopes` meets its contract: turn after turn one slope more.
-use mathlib.Core.Path.{◌≡◌, refl, ap, ◌∙◌}
-use Prim.Native.Nat.{ℕ, ◌-◌, ◌≤◌}
-use native.Mathlib.Omega.{arith}
-use lib.ListN.{length, length-set}
+use mathlib.Core.Path.{◌≡◌}
+use Prim.Native.Nat.{◌-◌, ◌≤◌}
+use lib.ListN.{length}
 use Rattle.lists.specs.Splice.{splice}
-use Rattle.lists.specs.Listed.{listed, listed-none, listed-turn}
-use Rattle.gradient.specs.Slopes.{slope_between, loss-left, slope-made}
+use Rattle.lists.specs.Listed.{listed}
+use Rattle.gradient.specs.Slopes.{slope_between}
 use Rattle.gradient.proofs.slopes.put_slopes.Given as goal
 
 abbrev pub invariant-loop-i : goal.invariant-loop-i

@@ -1,6 +1,5 @@
 -- `slope` meets its contract: case by case.
 use Rattle.gradient.specs.Slopes.{slope_by}
-use borrow.Author.Rules.{rules}
 use Rattle.gradient.proofs.slopes.slope.Goals as goal
 
 pub returns-in-EachLoss : goal.returns-in-EachLoss

@@ -1,6 +1,5 @@
 -- `step` meets its contract: case by case.
 use Rattle.gradient.specs.Slopes.{step_of}
-use borrow.Author.Rules.{rules}
 use Rattle.gradient.proofs.slopes.step.Goals as goal
 
 pub returns-in-EachLoss : goal.returns-in-EachLoss

@@ -1,7 +1,6 @@
 -- `weighted_slope` meets its contract: the slopes, then their weighted sum.
 use mathlib.Core.Path.{◌∙◌}
 use Rattle.gradient.specs.Slopes.{slope_between, slopes-sum}
-use borrow.Author.Rules.{rules}
 use Rattle.gradient.proofs.slopes.weighted_slope.Goals as goal
 
 pub returns : goal.returns

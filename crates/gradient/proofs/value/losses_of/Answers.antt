@@ -5,7 +5,6 @@ use lib.ListN.{length}
 use Rattle.lists.specs.Splice.{splice}
 use Rattle.manipulability.specs.View.{view_of}
 use Rattle.gradient.specs.Ready.{lent-whole, cached-whole, losses-walked}
-use borrow.Author.Rules.{rules}
 use Rattle.gradient.proofs.value.losses_of.Goals as goal
 
 pub put_losses-requires : goal.put_losses-requires

@@ -2,7 +2,6 @@
 use native.Mathlib.Omega.{arith}
 use Rattle.objective_master.specs.Kinds.{kinds-length}
 use Rattle.gradient.specs.Ready.{KindsListed, kinds-most, kinds-listed}
-use borrow.Author.Rules.{rules}
 use Rattle.gradient.proofs.value.objective_in.Goals as goal
 
 pub relaxed_ik-n-requires : goal.relaxed_ik-n-requires

@@ -7,7 +7,6 @@ use lib.ListN.{length}
 use Rattle.task.specs.Task.{given_of}
 use Rattle.objective_master.specs.Weights.{weighted_by}
 use Rattle.gradient.specs.Made.{value_made}
-use borrow.Author.Rules.{rules}
 use Rattle.gradient.proofs.value.value_of.Goals as goal
 
 pub losses_of-requires : goal.losses_of-requires

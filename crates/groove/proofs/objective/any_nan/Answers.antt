@@ -1,11 +1,8 @@
 use mathlib.Core.Path.{◌≡◌, refl, sym, ap, ◌∙◌}
-use mathlib.Core.Bool.{false}
-use Prim.Native.Nat.{◌-◌, ◌≤◌}
 use native.Mathlib.Numerals.{add-one}
 use native.Mathlib.Omega.{arith}
 use lib.ListN.{length}
 use Rattle.groove.specs.Loss.{any_nan_to, any_nan, number-missing}
-use borrow.Author.Rules.{rules}
 use Rattle.groove.proofs.objective.any_nan.Goals as goal
 
 pub loop-i-init : goal.loop-i-init

@@ -1,11 +1,9 @@
 -- `any_nan` meets its contract. The joints passed are no NaN; the measure is the number of joints left.
-use mathlib.Core.Path.{◌≡◌, refl, sym, ap, ◌∙◌}
+use mathlib.Core.Path.{◌≡◌}
 use mathlib.Core.Bool.{false}
 use Prim.Native.Nat.{◌-◌, ◌≤◌}
-use native.Mathlib.Numerals.{add-one}
-use native.Mathlib.Omega.{arith}
 use lib.ListN.{length}
-use Rattle.groove.specs.Loss.{any_nan_to, any_nan, number-missing}
+use Rattle.groove.specs.Loss.{any_nan_to}
 use Rattle.groove.proofs.objective.any_nan.Given as goal
 
 abbrev pub invariant-loop-i : goal.invariant-loop-i

@@ -1,7 +1,6 @@
 -- `bounds_penalty` meets its contract: each return follows the tests before it.
 use borrow.Author.Tests.{eq-eqb, ne_eqb}
 use Rattle.groove.specs.Loss.{power_of, b_of, bounds_penalty}
-use borrow.Author.Rules.{rules}
 use Rattle.groove.proofs.objective.bounds_penalty.Goals as goal
 
 pub returns-then-p1-eq30 : goal.returns-then-p1-eq30

@@ -2,7 +2,6 @@
 use mathlib.Core.Path.{refl}
 use lib.Ieee.{of_int, of_bits}
 use Rattle.groove.specs.Loss.{change_loss}
-use borrow.Author.Rules.{rules}
 use Rattle.groove.proofs.objective.change_loss.Goals as goal
 
 pub returns : goal.returns

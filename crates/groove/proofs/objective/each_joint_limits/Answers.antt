@@ -1,6 +1,5 @@
 -- `each_joint_limits` meets its contract: its loss, evaluated.
 use Rattle.groove.specs.Loss.{each_joint_limits}
-use borrow.Author.Rules.{rules}
 use Rattle.groove.proofs.objective.each_joint_limits.Goals as goal
 
 pub returns : goal.returns

@@ -1,6 +1,5 @@
 -- `evaluate` meets its contract: each case is the loss of its name.
 use Rattle.groove.specs.Loss.{evaluate_of}
-use borrow.Author.Rules.{rules}
 use Rattle.groove.proofs.objective.evaluate.Goals as goal
 
 pub returns-in-Groove : goal.returns-in-Groove

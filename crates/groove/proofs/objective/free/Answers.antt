@@ -1,7 +1,6 @@
 -- `free` meets its contract: each return follows the tests before it.
 use lib.Ieee.{of_int, of_bits}
 use Rattle.groove.specs.Loss.{free_of}
-use borrow.Author.Rules.{rules}
 use Rattle.groove.proofs.objective.free.Goals as goal
 
 pub returns-then-l : goal.returns-then-l

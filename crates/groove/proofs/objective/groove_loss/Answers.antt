@@ -1,6 +1,5 @@
 -- `groove_loss` meets its contract: from what `exp` ensures.
 use Rattle.groove.specs.Loss.{groove_loss}
-use borrow.Author.Rules.{rules}
 use Rattle.groove.proofs.objective.groove_loss.Goals as goal
 
 pub returns : goal.returns

@@ -1,10 +1,8 @@
 use mathlib.Core.Path.{◌≡◌, refl}
-use Prim.Native.Nat.{◌-◌, ◌≤◌}
 use native.Mathlib.Numerals.{add-one}
 use native.Mathlib.Omega.{arith}
 use lib.ListN.{length}
 use Rattle.groove.specs.Loss.{velocity_at, acceleration_at, jerk_at, squares_to, velocity_of, acceleration_of, jerk_of}
-use borrow.Author.Rules.{rules}
 use Rattle.groove.proofs.objective.joint_changes.Goals as goal
 
 pub loop-i-init : goal.loop-i-init

@@ -1,10 +1,8 @@
 -- `joint_changes` meets its contract. The loop keeps the three sums of squares over the joints so far; the measure is the number of joints left.
-use mathlib.Core.Path.{◌≡◌, refl}
+use mathlib.Core.Path.{◌≡◌}
 use Prim.Native.Nat.{◌-◌, ◌≤◌}
-use native.Mathlib.Numerals.{add-one}
-use native.Mathlib.Omega.{arith}
 use lib.ListN.{length}
-use Rattle.groove.specs.Loss.{velocity_at, acceleration_at, jerk_at, squares_to, velocity_of, acceleration_of, jerk_of}
+use Rattle.groove.specs.Loss.{velocity_at, acceleration_at, jerk_at, squares_to}
 use Rattle.groove.proofs.objective.joint_changes.Given as goal
 
 abbrev pub invariant-loop-i : goal.invariant-loop-i

@@ -1,7 +1,6 @@
 -- `limits_loss` meets its contract: each return follows the test before it.
 use lib.Ieee.{of_int, of_bits}
 use Rattle.groove.specs.Loss.{limits_loss}
-use borrow.Author.Rules.{rules}
 use Rattle.groove.proofs.objective.limits_loss.Goals as goal
 
 pub returns-then-free : goal.returns-then-free

@@ -1,7 +1,6 @@
 -- `manipulability_loss` meets its contract: by computation.
 use mathlib.Core.Path.{refl}
 use Rattle.groove.specs.Loss.{manipulability_loss}
-use borrow.Author.Rules.{rules}
 use Rattle.groove.proofs.objective.manipulability_loss.Goals as goal
 
 pub returns : goal.returns

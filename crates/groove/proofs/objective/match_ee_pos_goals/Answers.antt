@@ -1,6 +1,5 @@
 -- `match_ee_pos_goals` meets its contract: its loss, evaluated.
 use Rattle.groove.specs.Loss.{match_ee_pos_goals}
-use borrow.Author.Rules.{rules}
 use Rattle.groove.proofs.objective.match_ee_pos_goals.Goals as goal
 
 pub returns : goal.returns

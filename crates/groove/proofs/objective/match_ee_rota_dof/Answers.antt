@@ -1,6 +1,5 @@
 -- `match_ee_rota_dof` meets its contract: its loss, evaluated.
 use Rattle.groove.specs.Loss.{match_ee_rota_dof}
-use borrow.Author.Rules.{rules}
 use Rattle.groove.proofs.objective.match_ee_rota_dof.Goals as goal
 
 pub returns : goal.returns

@@ -1,6 +1,5 @@
 -- `maximize_manipulability` meets its contract: its loss, evaluated.
 use Rattle.groove.specs.Loss.{maximize_manipulability}
-use borrow.Author.Rules.{rules}
 use Rattle.groove.proofs.objective.maximize_manipulability.Goals as goal
 
 pub returns : goal.returns

@@ -1,6 +1,5 @@
 -- `minimize_acceleration` meets its contract: its loss, evaluated.
 use Rattle.groove.specs.Loss.{minimize_acceleration}
-use borrow.Author.Rules.{rules}
 use Rattle.groove.proofs.objective.minimize_acceleration.Goals as goal
 
 pub returns : goal.returns

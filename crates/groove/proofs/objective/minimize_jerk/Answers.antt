@@ -1,6 +1,5 @@
 -- `minimize_jerk` meets its contract: its loss, evaluated.
 use Rattle.groove.specs.Loss.{minimize_jerk}
-use borrow.Author.Rules.{rules}
 use Rattle.groove.proofs.objective.minimize_jerk.Goals as goal
 
 pub returns : goal.returns

@@ -1,6 +1,5 @@
 -- `minimize_velocity` meets its contract: its loss, evaluated.
 use Rattle.groove.specs.Loss.{minimize_velocity}
-use borrow.Author.Rules.{rules}
 use Rattle.groove.proofs.objective.minimize_velocity.Goals as goal
 
 pub returns : goal.returns

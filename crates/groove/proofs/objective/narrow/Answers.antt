@@ -1,7 +1,6 @@
 -- `narrow` meets its contract: by computation.
 use mathlib.Core.Path.{refl}
 use Rattle.groove.specs.Loss.{narrow_of}
-use borrow.Author.Rules.{rules}
 use Rattle.groove.proofs.objective.narrow.Goals as goal
 
 pub returns : goal.returns

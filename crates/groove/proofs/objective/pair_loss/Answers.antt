@@ -1,7 +1,6 @@
 -- `pair_loss` meets its contract: each return follows the tests before it.
 use lib.Ieee.{of_int, of_bits}
 use Rattle.groove.specs.Loss.{pair_loss}
-use borrow.Author.Rules.{rules}
 use Rattle.groove.proofs.objective.pair_loss.Goals as goal
 
 pub returns-then-any_nan : goal.returns-then-any_nan

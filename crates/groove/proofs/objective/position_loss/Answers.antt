@@ -1,7 +1,6 @@
 -- `position_loss` meets its contract: each return follows the test before it.
 use lib.Ieee.{of_int, of_bits}
 use Rattle.groove.specs.Loss.{position_loss}
-use borrow.Author.Rules.{rules}
 use Rattle.groove.proofs.objective.position_loss.Goals as goal
 
 pub returns-then-narrow : goal.returns-then-narrow

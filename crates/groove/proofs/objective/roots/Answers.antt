@@ -1,6 +1,5 @@
 -- `roots` meets its contract: from what `sqrt` ensures.
 
-use borrow.Author.Rules.{rules}
 use Rattle.groove.proofs.objective.roots.Goals as goal
 
 pub returns : goal.returns

@@ -1,7 +1,6 @@
 -- `rotation_loss` meets its contract: each return follows the tests before it.
 use lib.Ieee.{of_int, of_bits}
 use Rattle.groove.specs.Loss.{rotation_loss}
-use borrow.Author.Rules.{rules}
 use Rattle.groove.proofs.objective.rotation_loss.Goals as goal
 
 pub returns-then-narrow : goal.returns-then-narrow

@@ -1,7 +1,6 @@
 -- `scaled` meets its contract: by computation.
 use mathlib.Core.Path.{refl}
 use Rattle.groove.specs.Loss.{scaled_of}
-use borrow.Author.Rules.{rules}
 use Rattle.groove.proofs.objective.scaled.Goals as goal
 
 pub returns : goal.returns

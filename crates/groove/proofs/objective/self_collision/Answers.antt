@@ -1,6 +1,5 @@
 -- `self_collision` meets its contract: its loss, evaluated.
 use Rattle.groove.specs.Loss.{self_collision}
-use borrow.Author.Rules.{rules}
 use Rattle.groove.proofs.objective.self_collision.Goals as goal
 
 pub returns : goal.returns

@@ -1,6 +1,5 @@
 -- `swamp_groove_loss` meets its contract: from what the three calls ensure.
 use Rattle.groove.specs.Loss.{swamp_groove_loss}
-use borrow.Author.Rules.{rules}
 use Rattle.groove.proofs.objective.swamp_groove_loss.Goals as goal
 
 pub returns : goal.returns

@@ -1,6 +1,5 @@
 -- `swamp_loss` meets its contract: from what the two calls ensure.
 use Rattle.groove.specs.Loss.{swamp_loss}
-use borrow.Author.Rules.{rules}
 use Rattle.groove.proofs.objective.swamp_loss.Goals as goal
 
 pub returns : goal.returns

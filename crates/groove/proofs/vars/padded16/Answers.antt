@@ -1,5 +1,4 @@
 use Rattle.groove.specs.Vars.{padded}
-use borrow.Author.Rules.{rules}
 use Rattle.groove.proofs.vars.padded16.Goals as goal
 
 -- src/vars.rt:16:1

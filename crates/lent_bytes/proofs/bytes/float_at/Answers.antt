@@ -4,7 +4,6 @@ use borrow.Author.Tests.{lt-ltb, le-ltb}
 use lib.Ieee.{binary64, of_bits}
 use Rattle.standins.specs.Num.{nought-over-nought}
 use Rattle.lent_bytes.specs.Bytes.{float_at}
-use borrow.Author.Rules.{rules}
 use Rattle.lent_bytes.proofs.bytes.float_at.Goals as goal
 
 pub returns-then-b-i : goal.returns-then-b-i

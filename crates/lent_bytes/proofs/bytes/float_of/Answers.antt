@@ -7,7 +7,6 @@ use lib.Ieee.{binary64}
 use lib.Ieee.Bits.{nan_bits_above}
 use Rattle.standins.specs.Num.{nought-over-nought}
 use Rattle.lent_bytes.specs.Bytes.{nan_pattern}
-use borrow.Author.Rules.{rules}
 use Rattle.lent_bytes.proofs.bytes.float_of.Goals as goal
 
 pub returns-then-n-gt9218868437227405312 : goal.returns-then-n-gt9218868437227405312

@@ -1,11 +1,8 @@
 use mathlib.Core.Path.{◌≡◌, refl, ap, ◌∙◌}
-use Prim.Native.Nat.{◌-◌, ◌≤◌}
 use native.Mathlib.Omega.{arith}
 use lib.ListN.{length, length-set}
-use Rattle.lists.specs.Splice.{splice}
 use Rattle.lists.specs.Listed.{listed, listed-none, listed-turn, listed-whole}
 use Rattle.lent_bytes.specs.Bytes.{float_at}
-use borrow.Author.Rules.{rules}
 use Rattle.lent_bytes.proofs.bytes.floats.Goals as goal
 
 pub loop-i-init : goal.loop-i-init

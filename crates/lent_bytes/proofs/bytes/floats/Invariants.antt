@@ -1,10 +1,9 @@
 -- `floats` meets its contract: turn after turn one float more.
-use mathlib.Core.Path.{◌≡◌, refl, ap, ◌∙◌}
+use mathlib.Core.Path.{◌≡◌}
 use Prim.Native.Nat.{◌-◌, ◌≤◌}
-use native.Mathlib.Omega.{arith}
-use lib.ListN.{length, length-set}
+use lib.ListN.{length}
 use Rattle.lists.specs.Splice.{splice}
-use Rattle.lists.specs.Listed.{listed, listed-none, listed-turn, listed-whole}
+use Rattle.lists.specs.Listed.{listed}
 use Rattle.lent_bytes.specs.Bytes.{float_at}
 use Rattle.lent_bytes.proofs.bytes.floats.Given as goal
 

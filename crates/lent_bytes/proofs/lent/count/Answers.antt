@@ -4,7 +4,6 @@ use Prim.Native.Nat.{◌%◌}
 use native.Mathlib.Omega.{arith}
 use borrow.Author.Tests.{eq-eqb, ne_eqb, lt-ltb, le-ltb}
 use Rattle.lent_bytes.specs.Lent.{count_in}
-use borrow.Author.Rules.{rules}
 use Rattle.lent_bytes.proofs.lent.count.Goals as goal
 
 pub returns-then-size-width-ne0 : goal.returns-then-size-width-ne0

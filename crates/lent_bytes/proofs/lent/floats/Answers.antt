@@ -1,12 +1,11 @@
 use mathlib.Core.Path.{◌≡◌, refl, sym, ap, ◌∙◌}
-use Prim.Native.Nat.{ℕ, ◌-◌, ◌≤◌}
+use Prim.Native.Nat.{ℕ}
 use native.Mathlib.Omega.{arith}
 use lib.ListN.{length, length-set}
 use Rattle.lists.specs.Splice.{splice}
 use Rattle.lists.specs.Listed.{listed, listed-none, listed-turn}
 use Rattle.lent_bytes.specs.Bytes.{float_at}
 use Rattle.lent_bytes.specs.Lent.{count_in, floats_in, front_of, count-within, count_under, floats-length}
-use borrow.Author.Rules.{rules}
 use Rattle.lent_bytes.proofs.lent.floats.Goals as goal
 
 pub loop-i-init : goal.loop-i-init

@@ -1,11 +1,10 @@
 use mathlib.Core.Path.{◌≡◌, refl, sym, ap, ◌∙◌}
-use Prim.Native.Nat.{ℕ, ◌-◌, ◌≤◌}
+use Prim.Native.Nat.{ℕ}
 use native.Mathlib.Omega.{arith}
 use lib.ListN.{length, length-set}
 use Rattle.lists.specs.Splice.{splice}
 use Rattle.lists.specs.Listed.{listed, listed-none, listed-turn}
 use Rattle.lent_bytes.specs.Lent.{count_in, number_at, numbers_in, front_of, count-within, count_under, numbers-length}
-use borrow.Author.Rules.{rules}
 use Rattle.lent_bytes.proofs.lent.numbers.Goals as goal
 
 pub loop-i-init : goal.loop-i-init

@@ -1,11 +1,10 @@
 -- `numbers` meets its contract: turn after turn one more.
-use mathlib.Core.Path.{◌≡◌, refl, sym, ap, ◌∙◌}
-use Prim.Native.Nat.{ℕ, ◌-◌, ◌≤◌}
-use native.Mathlib.Omega.{arith}
-use lib.ListN.{length, length-set}
+use mathlib.Core.Path.{◌≡◌}
+use Prim.Native.Nat.{◌-◌, ◌≤◌}
+use lib.ListN.{length}
 use Rattle.lists.specs.Splice.{splice}
-use Rattle.lists.specs.Listed.{listed, listed-none, listed-turn}
-use Rattle.lent_bytes.specs.Lent.{count_in, number_at, numbers_in, front_of, count-within, count_under, numbers-length}
+use Rattle.lists.specs.Listed.{listed}
+use Rattle.lent_bytes.specs.Lent.{number_at}
 use Rattle.lent_bytes.proofs.lent.numbers.Given as goal
 
 abbrev pub invariant-loop-i : goal.invariant-loop-i

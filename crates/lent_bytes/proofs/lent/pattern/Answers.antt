@@ -4,7 +4,6 @@ use lib.Dec.{T}
 use lib.Ieee.{binary64, to_bits}
 use lib.Ieee.Compare.{differs_from_itself}
 use Rattle.lent_bytes.specs.Lent.{itself}
-use borrow.Author.Rules.{rules}
 use Rattle.lent_bytes.proofs.lent.pattern.Goals as goal
 
 pub returns-then-x : goal.returns-then-x

@@ -2,7 +2,6 @@
 use native.Mathlib.Omega.{arith}
 use lib.ListN.{length-set}
 use Rattle.lists.specs.Splice.{splice-four}
-use borrow.Author.Rules.{rules}
 use Rattle.lent_bytes.proofs.lent.put_half.Goals as goal
 
 pub bounds-out-at-2 : goal.bounds-out-at-2

@@ -1,11 +1,10 @@
 use mathlib.Core.Path.{◌≡◌, refl, ap, ◌∙◌}
-use Prim.Native.Nat.{ℕ, ◌-◌, ◌≤◌}
+use Prim.Native.Nat.{ℕ}
 use native.Mathlib.Omega.{arith}
 use lib.ListN.{length, take}
 use lib.Seq.{take-length}
 use Rattle.lists.specs.Splice.{splice}
 use Rattle.lent_bytes.specs.Lent.{bytes_of_numbers, number-bytes-none, number-bytes-turn}
-use borrow.Author.Rules.{rules}
 use Rattle.lent_bytes.proofs.lent.put_numbers.Goals as goal
 
 pub loop-i-init : goal.loop-i-init

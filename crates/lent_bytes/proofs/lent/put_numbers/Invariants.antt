@@ -1,11 +1,9 @@
 -- `put_numbers` meets its contract: turn after turn two bytes more.
-use mathlib.Core.Path.{◌≡◌, refl, ap, ◌∙◌}
-use Prim.Native.Nat.{ℕ, ◌-◌, ◌≤◌}
-use native.Mathlib.Omega.{arith}
+use mathlib.Core.Path.{◌≡◌}
+use Prim.Native.Nat.{◌-◌, ◌≤◌}
 use lib.ListN.{length, take}
-use lib.Seq.{take-length}
 use Rattle.lists.specs.Splice.{splice}
-use Rattle.lent_bytes.specs.Lent.{bytes_of_numbers, number-bytes-none, number-bytes-turn}
+use Rattle.lent_bytes.specs.Lent.{bytes_of_numbers}
 use Rattle.lent_bytes.proofs.lent.put_numbers.Given as goal
 
 abbrev pub invariant-loop-i : goal.invariant-loop-i

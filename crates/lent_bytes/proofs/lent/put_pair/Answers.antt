@@ -2,7 +2,6 @@
 use native.Mathlib.Omega.{arith}
 use lib.ListN.{length-set}
 use Rattle.lent_bytes.specs.Lent.{splice-two}
-use borrow.Author.Rules.{rules}
 use Rattle.lent_bytes.proofs.lent.put_pair.Goals as goal
 
 pub bounds-out-at-2 : goal.bounds-out-at-2

@@ -5,7 +5,6 @@ use Prim.Native.Nat.{ℕ, ◌+◌, ◌/◌}
 use native.Mathlib.Omega.{arith}
 use Rattle.lists.specs.Splice.{splice, splice-splice}
 use Rattle.lent_bytes.specs.Lent.{half_bytes}
-use borrow.Author.Rules.{rules}
 use Rattle.lent_bytes.proofs.lent.put_word.Goals as goal
 
 pub returns : goal.returns

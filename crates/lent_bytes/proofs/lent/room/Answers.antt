@@ -1,7 +1,6 @@
 -- `room` meets its contract: each return follows the test.
 use borrow.Author.Tests.{eq-eqb, ne_eqb}
 use Rattle.lent_bytes.specs.Lent.{room_in}
-use borrow.Author.Rules.{rules}
 use Rattle.lent_bytes.proofs.lent.room.Goals as goal
 
 pub returns-then-size-ne0 : goal.returns-then-size-ne0

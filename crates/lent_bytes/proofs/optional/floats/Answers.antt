@@ -2,10 +2,9 @@
 use mathlib.Core.Path.{◌≡◌, ◌∙◌, sym, ap}
 use native.Mathlib.Omega.{arith}
 use lib.ListN.{length}
-use Rattle.lent_bytes.specs.Lent.{Front, count_in, count_under, front-count}
+use Rattle.lent_bytes.specs.Lent.{count_in, count_under, front-count}
 use Rattle.lent_bytes.specs.declared.optional.Optional.TheVariants.{Floats}
 use Rattle.lent_bytes.specs.Optional.{left_out, counted-wrong, counted-floats}
-use borrow.Author.Rules.{rules}
 use Rattle.lent_bytes.proofs.optional.floats.Goals as goal
 
 pub returns-then-b-eq0 : goal.returns-then-b-eq0

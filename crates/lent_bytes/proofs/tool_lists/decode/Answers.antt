@@ -3,7 +3,6 @@ use mathlib.Core.Path.{refl}
 use lib.ListN.{replicate}
 use Rattle.standins.specs.Num.{nought}
 use Rattle.lent_bytes.specs.ToolLists.{tools-made}
-use borrow.Author.Rules.{rules}
 use Rattle.lent_bytes.proofs.tool_lists.decode.Goals as goal
 
 pub returns : goal.returns

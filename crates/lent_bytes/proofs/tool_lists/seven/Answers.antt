@@ -3,7 +3,6 @@ use mathlib.Core.Path.{ap, ◌∙◌}
 use lib.ListN.{replicate}
 use Rattle.standins.specs.Num.{nought-over-nought}
 use Rattle.lent_bytes.specs.ToolLists.{seven-read, not-seven}
-use borrow.Author.Rules.{rules}
 use Rattle.lent_bytes.proofs.tool_lists.seven.Goals as goal
 
 pub returns-then-n-eq7 : goal.returns-then-n-eq7

@@ -5,7 +5,6 @@ use lib.ListN.{replicate}
 use Rattle.lists.specs.Splice.{splice}
 use Rattle.standins.specs.Num.{one}
 use Rattle.lent_bytes.specs.ToolLists.{eight-left-out, marked}
-use borrow.Author.Rules.{rules}
 use Rattle.lent_bytes.proofs.tool_lists.tool.Goals as goal
 
 pub returns-then-b-eq0 : goal.returns-then-b-eq0

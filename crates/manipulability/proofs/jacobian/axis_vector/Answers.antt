@@ -1,7 +1,6 @@
 -- `axis_vector` meets its contract: each return follows the test.
 use borrow.Author.Tests.{eq-eqb, ne_eqb}
 use Rattle.manipulability.specs.Jacobian.{axis_vector}
-use borrow.Author.Rules.{rules}
 use Rattle.manipulability.proofs.jacobian.axis_vector.Goals as goal
 
 pub returns-then-axis-eq0 : goal.returns-then-axis-eq0

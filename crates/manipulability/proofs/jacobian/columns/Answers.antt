@@ -1,12 +1,11 @@
 use mathlib.Core.Path.{◌≡◌, refl, ap, ◌∙◌}
-use Prim.Native.Nat.{◌-◌, ◌≤◌}
+use Prim.Native.Nat.{◌-◌}
 use native.Mathlib.Omega.{arith}
 use lib.ListN.{length}
 use Rattle.geometry.specs.declared.pose.Pose.{Pose}
 use Rattle.manipulability.specs.View.{view_of}
 use Rattle.sheet.specs.Chain.{joints_in}
 use Rattle.manipulability.specs.Jacobian.{Filling, filling_of, after_of, jacobian_of, start-made, start-length, axes-all, after-made, column-room}
-use borrow.Author.Rules.{rules}
 use Rattle.manipulability.proofs.jacobian.columns.Goals as goal
 
 pub overflow_sub-end : goal.overflow_sub-end

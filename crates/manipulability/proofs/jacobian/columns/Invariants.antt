@@ -1,12 +1,9 @@
 -- `columns` meets its contract: turn after turn one link more.
-use mathlib.Core.Path.{◌≡◌, refl, ap, ◌∙◌}
+use mathlib.Core.Path.{◌≡◌}
 use Prim.Native.Nat.{◌-◌, ◌≤◌}
-use native.Mathlib.Omega.{arith}
 use lib.ListN.{length}
-use Rattle.geometry.specs.declared.pose.Pose.{Pose}
 use Rattle.manipulability.specs.View.{view_of}
-use Rattle.sheet.specs.Chain.{joints_in}
-use Rattle.manipulability.specs.Jacobian.{Filling, filling_of, after_of, jacobian_of, start-made, start-length, axes-all, after-made, column-room}
+use Rattle.manipulability.specs.Jacobian.{filling_of, after_of}
 use Rattle.manipulability.proofs.jacobian.columns.Given as goal
 
 abbrev pub invariant-loop-i : goal.invariant-loop-i

@@ -6,7 +6,6 @@ use lib.ListN.{length, take}
 use Rattle.lists.specs.Listed.{listed}
 use Rattle.sheet.specs.Chain.{joints_in}
 use Rattle.manipulability.specs.Jacobian.{axes_of, unit_of, axes-all, start_is}
-use borrow.Author.Rules.{rules}
 use Rattle.manipulability.proofs.jacobian.get_jacobian_immutable.Goals as goal
 
 pub slice_bounds-columns-end : goal.slice_bounds-columns-end

@@ -10,7 +10,6 @@ use Rattle.standins.specs.Cut.{cut_of}
 use Rattle.geometry.specs.Matrix.{gram_of, determinant_of}
 use Rattle.sheet.specs.Chain.{joint-mono, joints_in}
 use Rattle.manipulability.specs.Jacobian.{joint-order, manipulability_in}
-use borrow.Author.Rules.{rules}
 use Rattle.manipulability.proofs.jacobian.get_manipulability_immutable.Goals as goal
 
 pub overflow_sub-n : goal.overflow_sub-n

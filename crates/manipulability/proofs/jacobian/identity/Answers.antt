@@ -1,11 +1,10 @@
 use mathlib.Core.Path.{◌≡◌, refl, ap, ◌∙◌}
-use Prim.Native.Nat.{ℕ, ◌-◌, ◌≤◌}
+use Prim.Native.Nat.{ℕ}
 use native.Mathlib.Omega.{arith}
 use lib.ListN.{length, length-set}
 use Rattle.lists.specs.Splice.{splice}
 use Rattle.lists.specs.Listed.{listed, listed-none, listed-turn, listed-whole}
 use Rattle.manipulability.specs.Jacobian.{unit_of}
-use borrow.Author.Rules.{rules}
 use Rattle.manipulability.proofs.jacobian.identity.Goals as goal
 
 pub loop-i-init : goal.loop-i-init

@@ -1,10 +1,9 @@
 -- `identity` meets its contract: turn after turn one float more.
-use mathlib.Core.Path.{◌≡◌, refl, ap, ◌∙◌}
-use Prim.Native.Nat.{ℕ, ◌-◌, ◌≤◌}
-use native.Mathlib.Omega.{arith}
-use lib.ListN.{length, length-set}
+use mathlib.Core.Path.{◌≡◌}
+use Prim.Native.Nat.{◌-◌, ◌≤◌}
+use lib.ListN.{length}
 use Rattle.lists.specs.Splice.{splice}
-use Rattle.lists.specs.Listed.{listed, listed-none, listed-turn, listed-whole}
+use Rattle.lists.specs.Listed.{listed}
 use Rattle.manipulability.specs.Jacobian.{unit_of}
 use Rattle.manipulability.proofs.jacobian.identity.Given as goal
 

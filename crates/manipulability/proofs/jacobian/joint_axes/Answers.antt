@@ -1,11 +1,10 @@
 use mathlib.Core.Path.{◌≡◌, refl, sym, ap, ◌∙◌}
-use Prim.Native.Nat.{◌+◌, ◌-◌, ◌≤◌}
+use Prim.Native.Nat.{◌+◌}
 use native.Mathlib.Omega.{arith}
 use lib.ListN.{length, get_or}
 use Rattle.lists.specs.Splice.{splice, splice-nil, length-splice}
 use Rattle.sheet.specs.Chain.{joints_of}
-use Rattle.manipulability.specs.Jacobian.{axes_of, axis_piece, piece-length, axes-none, axes-count, axes-turn, axes-room, axes-front}
-use borrow.Author.Rules.{rules}
+use Rattle.manipulability.specs.Jacobian.{axis_piece, piece-length, axes-none, axes-count, axes-turn, axes-room, axes-front}
 use Rattle.manipulability.proofs.jacobian.joint_axes.Goals as goal
 
 pub loop-i-init : goal.loop-i-init

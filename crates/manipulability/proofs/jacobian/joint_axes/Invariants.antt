@@ -1,11 +1,9 @@
 -- `joint_axes` meets its contract: turn after turn the axes of one link more.
-use mathlib.Core.Path.{◌≡◌, refl, sym, ap, ◌∙◌}
-use Prim.Native.Nat.{◌+◌, ◌-◌, ◌≤◌}
-use native.Mathlib.Omega.{arith}
-use lib.ListN.{length, get_or}
-use Rattle.lists.specs.Splice.{splice, splice-nil, length-splice}
-use Rattle.sheet.specs.Chain.{joints_of}
-use Rattle.manipulability.specs.Jacobian.{axes_of, axis_piece, piece-length, axes-none, axes-count, axes-turn, axes-room, axes-front}
+use mathlib.Core.Path.{◌≡◌}
+use Prim.Native.Nat.{◌-◌, ◌≤◌}
+use lib.ListN.{length}
+use Rattle.lists.specs.Splice.{splice}
+use Rattle.manipulability.specs.Jacobian.{axes_of}
 use Rattle.manipulability.proofs.jacobian.joint_axes.Given as goal
 
 abbrev pub invariant-loop-i : goal.invariant-loop-i

@@ -1,13 +1,11 @@
 -- `put_axis` meets its contract: a fixed link writes nothing.
 use mathlib.Core.Path.{◌≡◌, sym, ap, ◌∙◌}
 use native.Mathlib.Omega.{arith}
-use borrow.Author.Tests.{not-true, not-false}
 use lib.ListN.{get_or, set}
 use Rattle.lists.specs.Splice.{splice, splice-nil, splice-one}
 use Rattle.sheet.specs.Code.{has_joint, axis_in, joint-there, joint-missing}
 use Rattle.sheet.specs.Chain.{joints-fixed, joints-one}
 use Rattle.manipulability.specs.Jacobian.{piece-fixed, piece-one}
-use borrow.Author.Rules.{rules}
 use Rattle.manipulability.proofs.jacobian.put_axis.Goals as goal
 
 pub returns-then-not-has_joint : goal.returns-then-not-has_joint

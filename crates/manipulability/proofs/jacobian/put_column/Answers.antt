@@ -9,7 +9,6 @@ use Rattle.geometry.specs.Vector.{cross_of}
 use Rattle.lists.specs.Splice.{splice, splice-splice}
 use Rattle.spacetime.specs.Floats.{flat_vec, vec-length}
 use Rattle.manipulability.specs.Jacobian.{column_of}
-use borrow.Author.Rules.{rules}
 use Rattle.manipulability.proofs.jacobian.put_column.Goals as goal
 
 pub returns : goal.returns

@@ -3,7 +3,6 @@ use mathlib.Core.Path.{◌≡◌, sym, ◌∙◌}
 use mathlib.Core.Bool.{true}
 use native.Mathlib.Omega.{arith}
 use Rattle.manipulability.specs.Jacobian.{turns_at, step_at, turns-joint}
-use borrow.Author.Rules.{rules}
 use Rattle.manipulability.proofs.jacobian.step.Goals as goal
 
 pub bounds-axes-c : goal.bounds-axes-c

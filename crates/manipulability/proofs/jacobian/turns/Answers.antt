@@ -1,6 +1,5 @@
 -- `turns` meets its contract: each kind by its arm.
 use Rattle.manipulability.specs.Jacobian.{turns_at}
-use borrow.Author.Rules.{rules}
 use Rattle.manipulability.proofs.jacobian.turns.Goals as goal
 
 pub returns-in-Turning : goal.returns-in-Turning

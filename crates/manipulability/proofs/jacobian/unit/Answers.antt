@@ -1,7 +1,6 @@
 -- `unit` meets its contract: each return follows the test.
 use borrow.Author.Tests.{eq-eqb, ne_eqb}
 use Rattle.manipulability.specs.Jacobian.{unit_of}
-use borrow.Author.Rules.{rules}
 use Rattle.manipulability.proofs.jacobian.unit.Goals as goal
 
 pub returns-then-i : goal.returns-then-i

@@ -1,11 +1,10 @@
 use mathlib.Core.Path.{◌≡◌, refl, sym, ap, ◌∙◌}
-use Prim.Native.Nat.{ℕ, ◌+◌, ◌-◌, ◌≤◌}
+use Prim.Native.Nat.{ℕ, ◌+◌}
 use native.Mathlib.Omega.{arith}
 use lib.ListN.{length, get_or}
 use Rattle.sheet.specs.Chain.{chain_start, chain-start-next}
 use Rattle.manipulability.specs.View.{view_of}
 use Rattle.manipulability.specs.Jacobian.{Part, manipulability_to, manipulability_of, chain-part, sum-turn}
-use borrow.Author.Rules.{rules}
 use Rattle.manipulability.proofs.robot.get_manipulability_immutable.Goals as goal
 
 pub loop-c-init : goal.loop-c-init

@@ -1,11 +1,10 @@
 -- `robot::get_manipulability_immutable` meets its contract: turn after turn one chain more.
-use mathlib.Core.Path.{◌≡◌, refl, sym, ap, ◌∙◌}
-use Prim.Native.Nat.{ℕ, ◌+◌, ◌-◌, ◌≤◌}
-use native.Mathlib.Omega.{arith}
-use lib.ListN.{length, get_or}
-use Rattle.sheet.specs.Chain.{chain_start, chain-start-next}
+use mathlib.Core.Path.{◌≡◌}
+use Prim.Native.Nat.{◌-◌, ◌≤◌}
+use lib.ListN.{length}
+use Rattle.sheet.specs.Chain.{chain_start}
 use Rattle.manipulability.specs.View.{view_of}
-use Rattle.manipulability.specs.Jacobian.{Part, manipulability_to, manipulability_of, chain-part, sum-turn}
+use Rattle.manipulability.specs.Jacobian.{manipulability_to}
 use Rattle.manipulability.proofs.robot.get_manipulability_immutable.Given as goal
 
 abbrev pub invariant-loop-c : goal.invariant-loop-c

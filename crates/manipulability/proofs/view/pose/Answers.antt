@@ -3,7 +3,6 @@ use mathlib.Core.Path.{sym, ◌∙◌}
 use Prim.Native.Nat.{◌≤◌, ◌<◌}
 use native.Mathlib.Omega.{arith}
 use Rattle.manipulability.specs.View.{view_of, walked-true}
-use borrow.Author.Rules.{rules}
 use Rattle.manipulability.proofs.view.pose.Goals as goal
 
 pub overflow_sub-link : goal.overflow_sub-link

@@ -4,7 +4,6 @@ use Prim.Native.Nat.{◌≤◌, ◌<◌}
 use native.Mathlib.Omega.{arith}
 use Rattle.manipulability.specs.View.{view_of, walked-true}
 use Rattle.spacetime.specs.Floats.{pose_at}
-use borrow.Author.Rules.{rules}
 use Rattle.manipulability.proofs.view.position.Goals as goal
 
 pub overflow_sub-link : goal.overflow_sub-link

@@ -1,7 +1,6 @@
 -- `walked_again` meets its contract.
 use borrow.Author.Tests.{le-leb, lt-leb}
 use Rattle.manipulability.specs.View.{walked_again}
-use borrow.Author.Rules.{rules}
 use Rattle.manipulability.proofs.view.walked_again.Goals as goal
 
 pub returns-then-link-from : goal.returns-then-link-from

@@ -10,7 +10,6 @@ use Rattle.lent_bytes.specs.Lent.{front, bytes_of}
 use Rattle.lent_bytes.specs.SheetLists.{SheetLists, sheet_with}
 use Rattle.objective_bytes.specs.ObjectiveCalls.{TaskLists, task_with}
 use Rattle.objective_bytes.specs.ObjectiveLaws.{Fitted, slopes-fitted, slopes-in-length}
-use borrow.Author.Rules.{rules}
 use Rattle.objective_bytes.proofs.objective_lists.gradient.Goals as goal
 
 pub returns-then-number-ne0 : goal.returns-then-number-ne0

@@ -12,7 +12,6 @@ use Rattle.lent_bytes.specs.Lent.{room_in, bytes_of}
 use Rattle.lent_bytes.specs.SheetLists.{SheetLists, sheet_with, same-two}
 use Rattle.arm_bytes.specs.ArmLaws.{bytes_fit}
 use Rattle.objective_bytes.specs.ObjectiveCalls.{TaskLists, task_with, optional_number, objective_number}
-use borrow.Author.Rules.{rules}
 use Rattle.objective_bytes.proofs.objective_lists.objective.Goals as goal
 
 pub returns-then-number-ne0 : goal.returns-then-number-ne0

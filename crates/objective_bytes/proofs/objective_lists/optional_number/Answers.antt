@@ -2,7 +2,6 @@
 use mathlib.Core.Path.{◌∙◌}
 use Rattle.refusals.specs.Lowest.{first_of}
 use Rattle.lent_bytes.specs.SheetLists.{same-two}
-use borrow.Author.Rules.{rules}
 use Rattle.objective_bytes.proofs.objective_lists.optional_number.Goals as goal
 
 pub returns : goal.returns

@@ -3,7 +3,6 @@ use mathlib.Core.Path.{◌≡◌, sym}
 use native.Mathlib.Omega.{arith}
 use lib.ListN.{length, take}
 use lib.Seq.{length-take-le}
-use borrow.Author.Rules.{rules}
 use Rattle.objective_bytes.proofs.objective_lists.put_answers.Goals as goal
 
 pub slice_bounds-put_floats-end : goal.slice_bounds-put_floats-end

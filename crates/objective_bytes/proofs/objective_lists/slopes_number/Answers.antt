@@ -4,7 +4,6 @@ use Rattle.refusals.specs.Lowest.{first_of}
 use Rattle.refusals.specs.Refusal.{room_refusal}
 use Rattle.lent_bytes.specs.SheetLists.{same-two}
 use Rattle.objective_bytes.specs.ObjectiveCalls.{optional_number, slopes_number}
-use borrow.Author.Rules.{rules}
 use Rattle.objective_bytes.proofs.objective_lists.slopes_number.Goals as goal
 
 pub returns : goal.returns

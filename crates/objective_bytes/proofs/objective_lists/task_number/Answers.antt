@@ -6,7 +6,6 @@ use Rattle.refusals.specs.Lowest.{first_of, first-zero, first_some}
 use Rattle.refusals.specs.Passed.{Shape, load-passed}
 use Rattle.lent_bytes.specs.SheetLists.{same-two}
 use Rattle.objective_bytes.specs.ObjectiveCalls.{task_number}
-use borrow.Author.Rules.{rules}
 use Rattle.objective_bytes.proofs.objective_lists.task_number.Goals as goal
 
 pub returns-then-load-ne0 : goal.returns-then-load-ne0

@@ -7,7 +7,6 @@ use Rattle.lent_bytes.specs.Lent.{room_in, bytes_of}
 use Rattle.lent_bytes.specs.SheetLists.{sheet-held, same-three}
 use Rattle.objective_bytes.specs.ObjectiveLaws.{same-four}
 use Rattle.objective_bytes.specs.ObjectiveCalls.{task_with, objective_number, objective_value}
-use borrow.Author.Rules.{rules}
 use Rattle.objective_bytes.proofs.objectives.objective.Goals as goal
 
 pub returns : goal.returns

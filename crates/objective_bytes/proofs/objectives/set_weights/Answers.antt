@@ -1,6 +1,5 @@
 -- `set_weights` meets its contract: by what its calls ensure of the decoded list.
 
-use borrow.Author.Rules.{rules}
 use Rattle.objective_bytes.proofs.objectives.set_weights.Goals as goal
 
 pub returns : goal.returns

@@ -9,7 +9,6 @@ use Rattle.lent_bytes.specs.Lent.{room_in, bytes_of}
 use Rattle.lent_bytes.specs.SheetLists.{sheet-held, same-three}
 use Rattle.objective_bytes.specs.ObjectiveLaws.{same-four}
 use Rattle.objective_bytes.specs.ObjectiveCalls.{task_with, slopes_number, objective_value, slopes_in}
-use borrow.Author.Rules.{rules}
 use Rattle.objective_bytes.proofs.objectives.slopes_by.Goals as goal
 
 pub returns : goal.returns

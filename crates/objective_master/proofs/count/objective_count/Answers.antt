@@ -1,5 +1,5 @@
 use mathlib.Core.Path.{◌≡◌, refl, sym, ap, ◌∙◌}
-use Prim.Native.Nat.{ℕ, ◌+◌, ◌-◌, ◌*◌, ◌≤◌, ◌<◌}
+use Prim.Native.Nat.{ℕ, ◌+◌, ◌-◌, ◌≤◌, ◌<◌}
 use native.Mathlib.Omega.{arith}
 use lib.ListN.{length, get_or}
 use Rattle.lists.specs.Runs.{runs, runs_none}
@@ -8,7 +8,6 @@ use Rattle.sheet.specs.ChainTurn.{length-here}
 use Rattle.manipulability.specs.Jacobian.{Part, chain-part}
 use Rattle.self_collision.specs.Pairs.{chain_pairs, first_arm, chain_lengths, count-more, chain-count}
 use Rattle.objective_master.specs.Count.{count-is}
-use borrow.Author.Rules.{rules}
 use Rattle.objective_master.proofs.count.objective_count.Goals as goal
 
 pub loop-c-init : goal.loop-c-init

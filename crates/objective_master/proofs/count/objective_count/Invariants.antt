@@ -1,14 +1,10 @@
 -- `objective_count` meets its contract: turn after turn one chain's pairs more.
-use mathlib.Core.Path.{◌≡◌, refl, sym, ap, ◌∙◌}
-use Prim.Native.Nat.{ℕ, ◌+◌, ◌-◌, ◌*◌, ◌≤◌, ◌<◌}
-use native.Mathlib.Omega.{arith}
-use lib.ListN.{length, get_or}
-use Rattle.lists.specs.Runs.{runs, runs_none}
-use Rattle.sheet.specs.Chain.{chain_start, chain-start-next, joint_of, joint-zero, joint-mono, joint-last, chain_length}
-use Rattle.sheet.specs.ChainTurn.{length-here}
-use Rattle.manipulability.specs.Jacobian.{Part, chain-part}
-use Rattle.self_collision.specs.Pairs.{chain_pairs, first_arm, chain_lengths, count-more, chain-count}
-use Rattle.objective_master.specs.Count.{count-is}
+use mathlib.Core.Path.{◌≡◌}
+use Prim.Native.Nat.{◌-◌, ◌*◌, ◌≤◌}
+use lib.ListN.{length}
+use Rattle.lists.specs.Runs.{runs}
+use Rattle.sheet.specs.Chain.{chain_start, joint_of}
+use Rattle.self_collision.specs.Pairs.{chain_pairs, first_arm, chain_lengths}
 use Rattle.objective_master.proofs.count.objective_count.Given as goal
 
 abbrev pub invariant-loop-c : goal.invariant-loop-c

@@ -1,8 +1,7 @@
 use mathlib.Core.Path.{◌≡◌, ap}
-use Prim.Native.Nat.{◌+◌, ◌-◌, ◌*◌, ◌≤◌}
+use Prim.Native.Nat.{◌-◌}
 use native.Mathlib.Omega.{arith}
 use Rattle.self_collision.specs.Pairs.{triangle, triangle-less}
-use borrow.Author.Rules.{rules}
 use Rattle.objective_master.proofs.count.pair_count.Goals as goal
 
 pub loop-j-init : goal.loop-j-init

@@ -1,8 +1,7 @@
 -- `pair_count` meets its contract: turn after turn one row more.
-use mathlib.Core.Path.{◌≡◌, ap}
+use mathlib.Core.Path.{◌≡◌}
 use Prim.Native.Nat.{◌+◌, ◌-◌, ◌*◌, ◌≤◌}
-use native.Mathlib.Omega.{arith}
-use Rattle.self_collision.specs.Pairs.{triangle, triangle-less}
+use Rattle.self_collision.specs.Pairs.{triangle}
 use Rattle.objective_master.proofs.count.pair_count.Given as goal
 
 abbrev pub invariant-loop-j : goal.invariant-loop-j

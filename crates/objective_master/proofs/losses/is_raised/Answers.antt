@@ -1,7 +1,6 @@
 -- `is_raised` meets its contract.
 use borrow.Author.Tests.{eq-eqb, ne_eqb}
 use Rattle.objective_master.specs.Cached.{is_raised}
-use borrow.Author.Rules.{rules}
 use Rattle.objective_master.proofs.losses.is_raised.Goals as goal
 
 pub returns-then-joint-eq65535 : goal.returns-then-joint-eq65535

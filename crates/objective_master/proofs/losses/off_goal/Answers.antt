@@ -1,6 +1,5 @@
 -- `off_goal` meets its contract.
 use Rattle.objective_master.specs.Losses.{off_goal, goal_quat, goal_position}
-use borrow.Author.Rules.{rules}
 use Rattle.objective_master.proofs.losses.off_goal.Goals as goal
 
 pub returns : goal.returns

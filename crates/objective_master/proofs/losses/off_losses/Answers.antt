@@ -1,7 +1,6 @@
 -- `off_losses` meets its contract.
 use Rattle.spacetime.specs.Floats.{flat_vec}
 use Rattle.objective_master.specs.Losses.{off_losses, off_loss, component_of}
-use borrow.Author.Rules.{rules}
 use Rattle.objective_master.proofs.losses.off_losses.Goals as goal
 
 pub returns : goal.returns

@@ -3,7 +3,6 @@ use mathlib.Core.Path.{ap, ◌∙◌}
 use Rattle.lists.specs.Splice.{splice}
 use Rattle.spacetime.specs.Floats.{flat_vec}
 use Rattle.objective_master.specs.Losses.{change_losses}
-use borrow.Author.Rules.{rules}
 use Rattle.objective_master.proofs.losses.put_changes.Goals as goal
 
 pub returns : goal.returns

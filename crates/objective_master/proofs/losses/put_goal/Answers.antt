@@ -4,7 +4,6 @@ use Rattle.geometry.specs.declared.pose.Pose.{Pose}
 use Rattle.lists.specs.Splice.{splice}
 use Rattle.spacetime.specs.Tool.{tip_of}
 use Rattle.objective_master.specs.Losses.{pose_losses}
-use borrow.Author.Rules.{rules}
 use Rattle.objective_master.proofs.losses.put_goal.Goals as goal
 
 pub returns-then-walked_again : goal.returns-then-walked_again

@@ -1,6 +1,6 @@
 use mathlib.Core.Path.{◌≡◌, refl, sym, ap, ◌∙◌}
 use mathlib.Core.List.{List}
-use Prim.Native.Nat.{ℕ, ◌+◌, ◌-◌, ◌*◌, ◌≤◌, ◌<◌}
+use Prim.Native.Nat.{ℕ, ◌+◌, ◌*◌, ◌≤◌, ◌<◌}
 use native.Mathlib.Nat.{suc-mul, mul-le-mul_right}
 use native.Mathlib.Omega.{arith}
 use lib.Ieee.{Float}
@@ -14,7 +14,6 @@ use Rattle.manipulability.specs.View.{view_of}
 use Rattle.objective_master.specs.Objective.{goal_width}
 use Rattle.objective_master.specs.Losses.{goal_losses, goal-length}
 use Rattle.objective_master.specs.Cached.{end_again, piece-turn, goal-is, goal-cached}
-use borrow.Author.Rules.{rules}
 use Rattle.objective_master.proofs.losses.put_goals.Goals as goal
 
 -- a chain's losses end within those of all

@@ -4,7 +4,6 @@ use native.Mathlib.Omega.{arith}
 use lib.ListN.{set}
 use Rattle.lists.specs.Splice.{splice-one}
 use Rattle.objective_master.specs.Losses.{limit_losses, limit_loss}
-use borrow.Author.Rules.{rules}
 use Rattle.objective_master.proofs.losses.put_limit.Goals as goal
 
 pub returns-then-is_raised : goal.returns-then-is_raised

@@ -1,6 +1,6 @@
 use mathlib.Core.Path.{◌≡◌, refl, ap, ◌∙◌}
 use mathlib.Core.List.{List}
-use Prim.Native.Nat.{ℕ, ◌+◌, ◌-◌, ◌*◌, ◌≤◌}
+use Prim.Native.Nat.{ℕ, ◌+◌, ◌*◌}
 use native.Mathlib.Omega.{arith}
 use lib.Ieee.{Float}
 use lib.ListN.{length}
@@ -8,7 +8,6 @@ use Rattle.lists.specs.Splice.{splice, length-splice}
 use Rattle.lists.specs.Runs.{runs, length_runs, splice-none, splice-turn-at}
 use Rattle.objective_master.specs.Losses.{limit_losses, limit-length}
 use Rattle.objective_master.specs.Cached.{is_raised, piece-turn}
-use borrow.Author.Rules.{rules}
 use Rattle.objective_master.proofs.losses.put_limits.Goals as goal
 
 pub loop-j-init : goal.loop-j-init

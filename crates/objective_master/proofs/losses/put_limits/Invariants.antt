@@ -1,14 +1,10 @@
 -- `put_limits` meets its contract: turn after turn one joint more.
-use mathlib.Core.Path.{◌≡◌, refl, ap, ◌∙◌}
-use mathlib.Core.List.{List}
-use Prim.Native.Nat.{ℕ, ◌+◌, ◌-◌, ◌*◌, ◌≤◌}
-use native.Mathlib.Omega.{arith}
-use lib.Ieee.{Float}
+use mathlib.Core.Path.{◌≡◌}
+use Prim.Native.Nat.{◌-◌, ◌≤◌}
 use lib.ListN.{length}
-use Rattle.lists.specs.Splice.{splice, length-splice}
-use Rattle.lists.specs.Runs.{runs, length_runs, splice-none, splice-turn-at}
-use Rattle.objective_master.specs.Losses.{limit_losses, limit-length}
-use Rattle.objective_master.specs.Cached.{is_raised, piece-turn}
+use Rattle.lists.specs.Splice.{splice}
+use Rattle.lists.specs.Runs.{runs}
+use Rattle.objective_master.specs.Losses.{limit_losses}
 use Rattle.objective_master.proofs.losses.put_limits.Given as goal
 
 abbrev pub invariant-loop-j : goal.invariant-loop-j

@@ -15,7 +15,6 @@ use Rattle.task.specs.Task.{Given, given_of, limits_of, xopt_of, prev_state_of, 
 use Rattle.objective_master.specs.Objective.{goal_width}
 use Rattle.objective_master.specs.Losses.{goal_losses, limit_losses, motion_losses}
 use Rattle.objective_master.specs.Cached.{CachedPieces, end_again, is_raised, goals-cached, limits-cached, pairs-cached, enough, length-one, behind-one, length_two, length_three, behind-three, losses-made}
-use borrow.Author.Rules.{rules}
 use Rattle.objective_master.proofs.losses.put_losses.Goals as goal
 
 pub put_goals-requires : goal.put_goals-requires

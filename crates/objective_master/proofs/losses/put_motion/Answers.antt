@@ -9,7 +9,6 @@ use Rattle.lists.specs.Splice.{splice, splice-one, splice-splice, length-splice}
 use Rattle.groove.specs.Loss.{maximize_manipulability}
 use Rattle.task.specs.Task.{xopt_of, prev_state_of, prev_state2_of}
 use Rattle.objective_master.specs.Losses.{change_losses, motion_losses, change-length}
-use borrow.Author.Rules.{rules}
 use Rattle.objective_master.proofs.losses.put_motion.Goals as goal
 
 pub returns : goal.returns

@@ -5,7 +5,6 @@ use native.Mathlib.Omega.{arith}
 use Rattle.lists.specs.Splice.{splice}
 use Rattle.objective_master.specs.Objective.{goal_width}
 use Rattle.objective_master.specs.Losses.{pose_losses}
-use borrow.Author.Rules.{rules}
 use Rattle.objective_master.proofs.losses.put_pose_losses.Goals as goal
 
 pub put_strict_losses-requires : goal.put_strict_losses-requires

@@ -1,7 +1,6 @@
 -- `tolerance` meets its contract.
 use mathlib.Core.Path.{refl}
 use Rattle.objective_master.specs.Losses.{tolerance_at}
-use borrow.Author.Rules.{rules}
 use Rattle.objective_master.proofs.losses.tolerance.Goals as goal
 
 pub returns : goal.returns

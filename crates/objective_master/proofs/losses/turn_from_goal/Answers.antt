@@ -1,6 +1,5 @@
 -- `turn_from_goal` meets its contract.
 use Rattle.objective_master.specs.Losses.{turn_from_goal, goal_quat}
-use borrow.Author.Rules.{rules}
 use Rattle.objective_master.proofs.losses.turn_from_goal.Goals as goal
 
 pub returns : goal.returns

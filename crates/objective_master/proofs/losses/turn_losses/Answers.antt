@@ -1,7 +1,6 @@
 -- `turn_losses` meets its contract.
 use Rattle.spacetime.specs.Floats.{flat_vec}
 use Rattle.objective_master.specs.Losses.{turn_losses, turn_loss, component_of}
-use borrow.Author.Rules.{rules}
 use Rattle.objective_master.proofs.losses.turn_losses.Goals as goal
 
 pub returns : goal.returns

@@ -4,7 +4,6 @@ use mathlib.Core.Bool.{Bool}
 use Prim.Native.Nat.{◌*◌}
 use native.Mathlib.Omega.{arith}
 use Rattle.objective_master.specs.Objective.{goal_width}
-use borrow.Author.Rules.{rules}
 use Rattle.objective_master.proofs.relaxed_ik.goals_to.Goals as goal
 
 pub returns-then-picks : goal.returns-then-picks

@@ -9,7 +9,6 @@ use Rattle.lists.specs.Splice.{splice}
 use Rattle.task.specs.Laid.{put-splice}
 use Rattle.objective_master.specs.Objective.{goal_width}
 use Rattle.objective_master.specs.Kinds.{goal_kinds}
-use borrow.Author.Rules.{rules}
 use Rattle.objective_master.proofs.relaxed_ik.put_goal.Goals as goal
 
 -- a list written to the front of the part from a place on

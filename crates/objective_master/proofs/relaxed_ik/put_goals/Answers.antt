@@ -1,6 +1,6 @@
 use mathlib.Core.Path.{◌≡◌, refl, ap, ◌∙◌}
 use mathlib.Core.List.{List}
-use Prim.Native.Nat.{ℕ, ◌+◌, ◌-◌, ◌*◌, ◌≤◌}
+use Prim.Native.Nat.{ℕ, ◌+◌, ◌*◌, ◌≤◌}
 use native.Mathlib.Nat.{mul-le-mul_right}
 use native.Mathlib.Omega.{arith}
 use lib.ListN.{length}
@@ -8,7 +8,6 @@ use Rattle.lists.specs.Splice.{splice, length-splice}
 use Rattle.lists.specs.Runs.{runs, length_runs, splice-none, splice-turn-at}
 use Rattle.objective_master.specs.Objective.{goal_width}
 use Rattle.objective_master.specs.Kinds.{goal_kinds, goal-kinds}
-use borrow.Author.Rules.{rules}
 use Rattle.objective_master.proofs.relaxed_ik.put_goals.Goals as goal
 
 pub loop-c-init : goal.loop-c-init

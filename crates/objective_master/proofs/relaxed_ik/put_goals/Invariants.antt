@@ -1,14 +1,10 @@
 -- `put_goals` meets its contract: turn after turn one chain more.
-use mathlib.Core.Path.{◌≡◌, refl, ap, ◌∙◌}
-use mathlib.Core.List.{List}
-use Prim.Native.Nat.{ℕ, ◌+◌, ◌-◌, ◌*◌, ◌≤◌}
-use native.Mathlib.Nat.{mul-le-mul_right}
-use native.Mathlib.Omega.{arith}
+use mathlib.Core.Path.{◌≡◌}
+use Prim.Native.Nat.{◌-◌, ◌≤◌}
 use lib.ListN.{length}
-use Rattle.lists.specs.Splice.{splice, length-splice}
-use Rattle.lists.specs.Runs.{runs, length_runs, splice-none, splice-turn-at}
-use Rattle.objective_master.specs.Objective.{goal_width}
-use Rattle.objective_master.specs.Kinds.{goal_kinds, goal-kinds}
+use Rattle.lists.specs.Splice.{splice}
+use Rattle.lists.specs.Runs.{runs}
+use Rattle.objective_master.specs.Kinds.{goal_kinds}
 use Rattle.objective_master.proofs.relaxed_ik.put_goals.Given as goal
 
 abbrev pub invariant-loop-c : goal.invariant-loop-c

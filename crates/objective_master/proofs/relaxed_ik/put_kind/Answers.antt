@@ -1,12 +1,10 @@
 use mathlib.Core.Path.{◌≡◌, refl, sym, ap, ◌∙◌}
-use mathlib.Core.List.{List}
-use Prim.Native.Nat.{ℕ, ◌+◌, ◌-◌, ◌*◌, ◌≤◌}
+use Prim.Native.Nat.{ℕ, ◌+◌, ◌*◌}
 use native.Mathlib.Omega.{arith}
 use lib.ListN.{length, length-set}
 use Rattle.lists.specs.Splice.{splice, splice-one}
 use Rattle.lists.specs.Runs.{runs, length_runs, splice-none, splice-turn-at}
 use Rattle.objective_master.specs.Kinds.{only_kind, one-kind}
-use borrow.Author.Rules.{rules}
 use Rattle.objective_master.proofs.relaxed_ik.put_kind.Goals as goal
 
 pub loop-i-init : goal.loop-i-init

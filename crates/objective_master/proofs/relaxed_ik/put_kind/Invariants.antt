@@ -1,12 +1,10 @@
 -- `put_kind` meets its contract: turn after turn one objective more.
-use mathlib.Core.Path.{◌≡◌, refl, sym, ap, ◌∙◌}
-use mathlib.Core.List.{List}
-use Prim.Native.Nat.{ℕ, ◌+◌, ◌-◌, ◌*◌, ◌≤◌}
-use native.Mathlib.Omega.{arith}
-use lib.ListN.{length, length-set}
-use Rattle.lists.specs.Splice.{splice, splice-one}
-use Rattle.lists.specs.Runs.{runs, length_runs, splice-none, splice-turn-at}
-use Rattle.objective_master.specs.Kinds.{only_kind, one-kind}
+use mathlib.Core.Path.{◌≡◌}
+use Prim.Native.Nat.{◌-◌, ◌≤◌}
+use lib.ListN.{length}
+use Rattle.lists.specs.Splice.{splice}
+use Rattle.lists.specs.Runs.{runs}
+use Rattle.objective_master.specs.Kinds.{only_kind}
 use Rattle.objective_master.proofs.relaxed_ik.put_kind.Given as goal
 
 abbrev pub invariant-loop-i : goal.invariant-loop-i

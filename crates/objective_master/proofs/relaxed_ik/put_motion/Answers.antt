@@ -6,7 +6,6 @@ use native.Mathlib.Omega.{arith}
 use lib.ListN.{length, take, drop}
 use Rattle.task.specs.Laid.{put-splice}
 use Rattle.objective_master.specs.Kinds.{motion_kinds}
-use borrow.Author.Rules.{rules}
 use Rattle.objective_master.proofs.relaxed_ik.put_motion.Goals as goal
 
 pub returns : goal.returns

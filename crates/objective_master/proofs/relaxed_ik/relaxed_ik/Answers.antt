@@ -6,7 +6,6 @@ use lib.ListN.{length}
 use Rattle.sheet.specs.Chain.{joints, joint-last}
 use Rattle.self_collision.specs.Pairs.{all_pairs, first_arm, chain_lengths}
 use Rattle.objective_master.specs.Kinds.{kinds-count, kinds-made}
-use borrow.Author.Rules.{rules}
 use Rattle.objective_master.proofs.relaxed_ik.relaxed_ik.Goals as goal
 
 pub overflow_add-motion : goal.overflow_add-motion

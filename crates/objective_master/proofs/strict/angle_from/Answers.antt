@@ -1,6 +1,5 @@
 -- `angle_from` meets its contract: the smaller of the two angles that its calls ensure.
 use Rattle.objective_master.specs.Strict.{angle_from}
-use borrow.Author.Rules.{rules}
 use Rattle.objective_master.proofs.strict.angle_from.Goals as goal
 
 pub returns : goal.returns

@@ -1,6 +1,5 @@
 -- `min` meets its contract: each return follows the tests before it.
 use Rattle.objective_master.specs.Strict.{min_of}
-use borrow.Author.Rules.{rules}
 use Rattle.objective_master.proofs.strict.min.Goals as goal
 
 pub returns-then-a : goal.returns-then-a

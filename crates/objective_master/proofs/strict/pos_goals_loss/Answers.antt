@@ -1,6 +1,5 @@
 -- `pos_goals_loss` meets its contract: by what its three calls ensure.
 use Rattle.objective_master.specs.Strict.{distance_from, pos_goals_loss}
-use borrow.Author.Rules.{rules}
 use Rattle.objective_master.proofs.strict.pos_goals_loss.Goals as goal
 
 pub returns : goal.returns

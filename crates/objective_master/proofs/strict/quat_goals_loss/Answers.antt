@@ -1,6 +1,5 @@
 -- `quat_goals_loss` meets its contract: by what its two calls ensure.
 use Rattle.objective_master.specs.Strict.{quat_goals_loss}
-use borrow.Author.Rules.{rules}
 use Rattle.objective_master.proofs.strict.quat_goals_loss.Goals as goal
 
 pub returns : goal.returns

@@ -1,6 +1,5 @@
 -- `in_force` meets its contract: by whether a list is loaded.
 use Rattle.objective_master.specs.Weights.{in_force}
-use borrow.Author.Rules.{rules}
 use Rattle.objective_master.proofs.weights.in_force.Goals as goal
 
 pub returns-then-loaded : goal.returns-then-loaded

@@ -1,7 +1,6 @@
 -- `weight_priors` meets its contract.
 use mathlib.Core.Path.{refl}
 use Rattle.objective_master.specs.Weights.{weight_priors}
-use borrow.Author.Rules.{rules}
 use Rattle.objective_master.proofs.weights.weight_priors.Goals as goal
 
 pub returns : goal.returns

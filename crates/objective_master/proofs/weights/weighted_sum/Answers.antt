@@ -1,10 +1,5 @@
-use mathlib.Core.Path.{◌≡◌}
-use Prim.Native.Nat.{◌-◌, ◌≤◌}
 use native.Mathlib.Omega.{arith}
-use lib.ListN.{length}
-use Rattle.standins.specs.Num.{nought}
-use Rattle.objective_master.specs.Weights.{sum_to, term_at, sum-none, sum_more, sum-all}
-use borrow.Author.Rules.{rules}
+use Rattle.objective_master.specs.Weights.{sum-none, sum_more, sum-all}
 use Rattle.objective_master.proofs.weights.weighted_sum.Goals as goal
 
 pub loop-i-init : goal.loop-i-init

@@ -1,10 +1,9 @@
 -- `weighted_sum` meets its contract: turn after turn one term more.
 use mathlib.Core.Path.{◌≡◌}
 use Prim.Native.Nat.{◌-◌, ◌≤◌}
-use native.Mathlib.Omega.{arith}
 use lib.ListN.{length}
 use Rattle.standins.specs.Num.{nought}
-use Rattle.objective_master.specs.Weights.{sum_to, term_at, sum-none, sum_more, sum-all}
+use Rattle.objective_master.specs.Weights.{sum_to, term_at}
 use Rattle.objective_master.proofs.weights.weighted_sum.Given as goal
 
 abbrev pub invariant-loop-i : goal.invariant-loop-i

@@ -1,10 +1,9 @@
 use mathlib.Core.Path.{◌≡◌}
-use Prim.Native.Nat.{◌+◌, ◌-◌, ◌≤◌}
+use Prim.Native.Nat.{◌+◌}
 use native.Mathlib.Omega.{arith}
 use lib.ListN.{length}
-use Rattle.one_block.specs.Record.{again_below, entries_of}
+use Rattle.one_block.specs.Record.{entries_of}
 use Rattle.one_block.specs.Laws.{below_none, below_more, below-most}
-use borrow.Author.Rules.{rules}
 use Rattle.one_block.proofs.grad.entries.Goals as goal
 
 pub loop-link-init : goal.loop-link-init

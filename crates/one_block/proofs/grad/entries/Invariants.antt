@@ -1,10 +1,8 @@
 -- `entries` meets its contract: link after link what its joint adds.
 use mathlib.Core.Path.{◌≡◌}
 use Prim.Native.Nat.{◌+◌, ◌-◌, ◌≤◌}
-use native.Mathlib.Omega.{arith}
 use lib.ListN.{length}
-use Rattle.one_block.specs.Record.{again_below, entries_of}
-use Rattle.one_block.specs.Laws.{below_none, below_more, below-most}
+use Rattle.one_block.specs.Record.{again_below}
 use Rattle.one_block.proofs.grad.entries.Given as goal
 
 abbrev pub invariant-loop-link : goal.invariant-loop-link

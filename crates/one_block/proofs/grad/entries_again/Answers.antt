@@ -1,11 +1,9 @@
 -- `entries_again` meets its contract.
 use native.Mathlib.Omega.{arith}
 use mathlib.Core.Path.{sym, ◌∙◌}
-use borrow.Author.Tests.{not-true, not-false}
 use Rattle.sheet.specs.Code.{joint-there, joint-missing}
 use Rattle.sheet.specs.Chain.{end-past}
 use Rattle.one_block.specs.Laws.{again-at-fixed, again-at-joint}
-use borrow.Author.Rules.{rules}
 use Rattle.one_block.proofs.grad.entries_again.Goals as goal
 
 pub returns-then-not-has_joint_at : goal.returns-then-not-has_joint_at

@@ -1,6 +1,6 @@
 use mathlib.Core.Path.{◌≡◌, refl, sym, ap, ◌∙◌, subst}
 use mathlib.Core.List.{List}
-use Prim.Native.Nat.{ℕ, ◌+◌, ◌-◌, ◌*◌, ◌≤◌, ◌<◌}
+use Prim.Native.Nat.{ℕ, ◌+◌, ◌*◌, ◌<◌}
 use native.Mathlib.Omega.{arith}
 use lib.Ieee.{Float}
 use lib.ListN.{length, take}
@@ -12,11 +12,10 @@ use Rattle.task.specs.Task.{Given, given_of}
 use Rattle.spacetime.specs.Walk.{frames_of, start-zero}
 use Rattle.gradient.specs.Gradient.{losses_at, gradient_at}
 use Rattle.gradient.specs.Ready.{Ready}
-use Rattle.one_block.specs.Record.{again_of, joint_entry, link_entry, pose_entry, again_below, place_after_turn, Meets}
+use Rattle.one_block.specs.Record.{again_of, joint_entry, link_entry, pose_entry, place_after_turn, Meets}
 use Rattle.one_block.specs.Laws.{joint-entry, link-entry, pose-entry, entries_over, below-entries, below_none, below_more, length-below, turn_at_lem, turn-meets}
 use Rattle.one_block.specs.Slope.{slopes_after, slopes-turn, slopes-all}
 use Rattle.one_block.specs.declared.grad.Turn.{Turn}
-use borrow.Author.Rules.{rules}
 use Rattle.one_block.proofs.grad.every_joint.Goals as goal
 
 pub loop-link-init : goal.loop-link-init

@@ -1,22 +1,14 @@
 -- `every_joint` meets its contract: link after link what its joint's copy adds.
-use mathlib.Core.Path.{◌≡◌, refl, sym, ap, ◌∙◌, subst}
-use mathlib.Core.List.{List}
-use Prim.Native.Nat.{ℕ, ◌+◌, ◌-◌, ◌*◌, ◌≤◌, ◌<◌}
-use native.Mathlib.Omega.{arith}
-use lib.Ieee.{Float}
-use lib.ListN.{length, take}
-use Rattle.lists.specs.Splice.{splice, take-splice-before}
-use Rattle.lists.specs.Runs.{runs, splice-turn-at, splice-start-at}
-use Rattle.lists.specs.Listed.{listed, listed-none}
-use Rattle.sheet.specs.Chain.{first-zero, joint_of, joint-zero, joint-mono, joint-last}
-use Rattle.task.specs.Task.{Given, given_of}
-use Rattle.spacetime.specs.Walk.{frames_of, start-zero}
-use Rattle.gradient.specs.Gradient.{losses_at, gradient_at}
-use Rattle.gradient.specs.Ready.{Ready}
-use Rattle.one_block.specs.Record.{again_of, joint_entry, link_entry, pose_entry, again_below, place_after_turn, Meets}
-use Rattle.one_block.specs.Laws.{joint-entry, link-entry, pose-entry, entries_over, below-entries, below_none, below_more, length-below, turn_at_lem, turn-meets}
-use Rattle.one_block.specs.Slope.{slopes_after, slopes-turn, slopes-all}
-use Rattle.one_block.specs.declared.grad.Turn.{Turn}
+use mathlib.Core.Path.{◌≡◌}
+use Prim.Native.Nat.{◌+◌, ◌-◌, ◌*◌, ◌≤◌}
+use lib.ListN.{length}
+use Rattle.lists.specs.Splice.{splice}
+use Rattle.lists.specs.Runs.{runs}
+use Rattle.lists.specs.Listed.{listed}
+use Rattle.sheet.specs.Chain.{joint_of}
+use Rattle.task.specs.Task.{given_of}
+use Rattle.gradient.specs.Gradient.{gradient_at}
+use Rattle.one_block.specs.Record.{again_of, joint_entry, link_entry, pose_entry, again_below, Meets}
 use Rattle.one_block.proofs.grad.every_joint.Given as goal
 
 abbrev pub invariant-loop-link : goal.invariant-loop-link

@@ -5,7 +5,6 @@ use native.Mathlib.Omega.{arith}
 use lib.ListN.{length}
 use Rattle.sheet.specs.Chain.{first-zero, joint-zero}
 use Rattle.spacetime.specs.Walk.{frames_of, start-zero}
-use borrow.Author.Rules.{rules}
 use Rattle.one_block.proofs.grad.first_walk.Goals as goal
 
 pub walk-requires : goal.walk-requires

@@ -17,7 +17,6 @@ use Rattle.gradient.specs.Ready.{KindsListed, kinds-most, kinds-listed, lent-who
 use Rattle.gradient.specs.Made.{losses-front, value_made}
 use Rattle.one_block.specs.Record.{again_of, record_of, joint_entry, link_entry, pose_entry, record_joints, record_links, record_poses}
 use Rattle.one_block.specs.Laws.{joint-entry, link-entry, pose-entry, frames-length, entries_over, first-poses}
-use borrow.Author.Rules.{rules}
 use Rattle.one_block.proofs.grad.gradient.Goals as goal
 
 pub relaxed_ik-n-requires : goal.relaxed_ik-n-requires

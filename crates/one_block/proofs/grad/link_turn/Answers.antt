@@ -2,7 +2,6 @@
 use mathlib.Core.Path.{◌≡◌, refl, sym, ◌∙◌}
 use Prim.Native.Nat.{◌*◌}
 use native.Mathlib.Omega.{arith}
-use borrow.Author.Tests.{not-true, not-false}
 use lib.ListN.{get_or}
 use Rattle.sheet.specs.Code.{joint-there, joint-missing}
 use Rattle.sheet.specs.Chain.{joint-le, joints-fixed, joints-one}
@@ -10,7 +9,6 @@ use Rattle.task.specs.Task.{Given, given_of}
 use Rattle.one_block.specs.Record.{joint_entry, link_entry, pose_entry}
 use Rattle.one_block.specs.Laws.{turn_is, entries_over, again-at-fixed, again-fixed}
 use Rattle.one_block.specs.Slope.{slopes-fixed}
-use borrow.Author.Rules.{rules}
 use Rattle.one_block.proofs.grad.link_turn.Goals as goal
 
 pub get-pose-requires : goal.get-pose-requires

@@ -17,7 +17,6 @@ use Rattle.gradient.specs.Made.{raised-length}
 use Rattle.one_block.specs.Record.{copy_of, joint_entry, link_entry, pose_entry}
 use Rattle.one_block.specs.Laws.{copy-joint, before-copy, joint-small, joint-in-block, Fits, fits, again-at-joint, again-joint, runs-poses}
 use Rattle.one_block.specs.Slope.{cached-at, slope-at, slopes-joint}
-use borrow.Author.Rules.{rules}
 use Rattle.one_block.proofs.grad.one_joint.Goals as goal
 
 pub raise-old-requires : goal.raise-old-requires

@@ -14,7 +14,6 @@ use Rattle.objective_master.specs.Losses.{Lent, losses_of}
 use Rattle.objective_master.specs.Kinds.{kinds-length}
 use Rattle.objective_master.specs.Cached.{Cached}
 use Rattle.one_block.specs.Slope.{cached-front, slope-made}
-use borrow.Author.Rules.{rules}
 use Rattle.one_block.proofs.grad.slope.Goals as goal
 
 pub slice_bounds-copy_floats-end : goal.slice_bounds-copy_floats-end

@@ -5,7 +5,6 @@ use lib.Ieee.{Float}
 use lib.ListN.{set}
 use Rattle.gradient.specs.Gradient.{raised_by}
 use Rattle.gradient.specs.Made.{put_back}
-use borrow.Author.Rules.{rules}
 use Rattle.one_block.proofs.walk.put_back.Goals as goal
 
 pub returns : goal.returns

@@ -1,7 +1,6 @@
 -- `raise` meets its contract.
 use mathlib.Core.Path.{refl}
 use Rattle.gradient.specs.Gradient.{raised_by}
-use borrow.Author.Rules.{rules}
 use Rattle.one_block.proofs.walk.raise.Goals as goal
 
 pub returns : goal.returns

@@ -1,13 +1,11 @@
 use mathlib.Core.Path.{◌≡◌, refl, sym, ap, ◌∙◌}
-use Prim.Native.Nat.{ℕ, ◌+◌, ◌-◌, ◌*◌, ◌≤◌, ◌<◌}
+use Prim.Native.Nat.{ℕ, ◌-◌, ◌*◌, ◌<◌}
 use native.Mathlib.Omega.{arith}
-use lib.ListN.{length}
 use Rattle.lists.specs.Splice.{splice}
-use Rattle.lists.specs.Runs.{runs, splice-turn, splice-start}
+use Rattle.lists.specs.Runs.{splice-turn, splice-start}
 use Rattle.spacetime.specs.Walk.{poses, poses-length, flat-made}
-use Rattle.one_block.specs.Record.{joint_entry, link_entry, place_after_all, Meets}
+use Rattle.one_block.specs.Record.{joint_entry, link_entry, place_after_all}
 use Rattle.one_block.specs.Laws.{joint-entry, link-entry, pose-walked, meets-next, at_next, walked_none, walked_more}
-use borrow.Author.Rules.{rules}
 use Rattle.one_block.proofs.walk.walk.Goals as goal
 
 pub loop-link-init : goal.loop-link-init

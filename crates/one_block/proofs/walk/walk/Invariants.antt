@@ -1,13 +1,11 @@
 -- `walk` meets its contract: turn after turn one entry more.
-use mathlib.Core.Path.{◌≡◌, refl, sym, ap, ◌∙◌}
-use Prim.Native.Nat.{ℕ, ◌+◌, ◌-◌, ◌*◌, ◌≤◌, ◌<◌}
-use native.Mathlib.Omega.{arith}
+use mathlib.Core.Path.{◌≡◌}
+use Prim.Native.Nat.{◌+◌, ◌-◌, ◌*◌, ◌≤◌}
 use lib.ListN.{length}
 use Rattle.lists.specs.Splice.{splice}
-use Rattle.lists.specs.Runs.{runs, splice-turn, splice-start}
-use Rattle.spacetime.specs.Walk.{poses, poses-length, flat-made}
+use Rattle.lists.specs.Runs.{runs}
+use Rattle.spacetime.specs.Walk.{poses}
 use Rattle.one_block.specs.Record.{joint_entry, link_entry, place_after_all, Meets}
-use Rattle.one_block.specs.Laws.{joint-entry, link-entry, pose-walked, meets-next, at_next, walked_none, walked_more}
 use Rattle.one_block.proofs.walk.walk.Given as goal
 
 abbrev pub invariant-loop-link : goal.invariant-loop-link

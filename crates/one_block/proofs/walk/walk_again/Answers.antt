@@ -4,7 +4,6 @@ use Prim.Native.Nat.{◌-◌}
 use native.Mathlib.Omega.{arith}
 use Rattle.one_block.specs.Laws.{joint-small, walked_at}
 use Rattle.one_block.specs.declared.walk.Place.{Place}
-use borrow.Author.Rules.{rules}
 use Rattle.one_block.proofs.walk.walk_again.Goals as goal
 
 pub overflow_cast-raised : goal.overflow_cast-raised

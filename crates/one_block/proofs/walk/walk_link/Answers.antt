@@ -4,7 +4,6 @@ use native.Mathlib.Omega.{arith}
 use Rattle.lists.specs.Splice.{splice-one}
 use Rattle.one_block.specs.Record.{place_after}
 use Rattle.one_block.specs.Laws.{joint-inside, joint-small}
-use borrow.Author.Rules.{rules}
 use Rattle.one_block.proofs.walk.walk_link.Goals as goal
 
 pub after_link-pose-requires : goal.after_link-pose-requires

@@ -1,7 +1,6 @@
 -- `lengths::block_length` meets its contract: the number after the last link is that of all joints.
 use mathlib.Core.Path.{◌∙◌}
 use Rattle.sheet.specs.Chain.{joint-last}
-use borrow.Author.Rules.{rules}
 use Rattle.refusals.proofs.lengths.block_length.Goals as goal
 
 pub returns : goal.returns

@@ -2,7 +2,6 @@
 use native.Mathlib.Omega.{arith}
 use lib.ListN.{length}
 use Rattle.sheet.specs.Chain.{joint-le, joint-last}
-use borrow.Author.Rules.{rules}
 use Rattle.refusals.proofs.lengths.history_length.Goals as goal
 
 pub overflow_mul-result : goal.overflow_mul-result

@@ -1,7 +1,6 @@
 -- `lengths::positions_length` meets its contract: the chains' lengths, summed.
 use native.Mathlib.Omega.{arith}
 use Rattle.refusals.specs.Lengths.{positions-sum}
-use borrow.Author.Rules.{rules}
 use Rattle.refusals.proofs.lengths.positions_length.Goals as goal
 
 pub returns : goal.returns

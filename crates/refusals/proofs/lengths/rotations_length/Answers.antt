@@ -1,7 +1,6 @@
 -- `lengths::rotations_length` meets its contract: the chains' lengths, summed.
 use native.Mathlib.Omega.{arith}
 use Rattle.refusals.specs.Lengths.{rotations-sum}
-use borrow.Author.Rules.{rules}
 use Rattle.refusals.proofs.lengths.rotations_length.Goals as goal
 
 pub returns : goal.returns

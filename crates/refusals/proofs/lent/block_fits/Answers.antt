@@ -1,11 +1,10 @@
 use mathlib.Core.Path.{◌≡◌, sym, ap, ◌∙◌}
-use Prim.Native.Nat.{ℕ, ◌+◌, ◌-◌, ◌≤◌}
+use Prim.Native.Nat.{ℕ, ◌+◌, ◌≤◌}
 use native.Mathlib.Omega.{arith}
 use lib.ListN.{length, get_or}
-use Rattle.sheet.specs.Chain.{joints_of, joint_of, joint-zero, joint-more, joint-mono, joint-last}
+use Rattle.sheet.specs.Chain.{joints_of, joint-zero, joint-more, joint-mono, joint-last}
 use Rattle.refusals.specs.Range.{every, every-none, every-turn}
 use Rattle.refusals.specs.Refusal.{value_fits, link_value_fits, block_fits}
-use borrow.Author.Rules.{rules}
 use Rattle.refusals.proofs.lent.block_fits.Goals as goal
 
 pub loop-l-init : goal.loop-l-init

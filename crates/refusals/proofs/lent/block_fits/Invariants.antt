@@ -1,12 +1,11 @@
 -- `lent::block_fits` meets its contract. The loop carries the answer for the links passed, and the place of the next joint.
 -- The measure is the number of links left.
-use mathlib.Core.Path.{◌≡◌, sym, ap, ◌∙◌}
-use Prim.Native.Nat.{ℕ, ◌+◌, ◌-◌, ◌≤◌}
-use native.Mathlib.Omega.{arith}
-use lib.ListN.{length, get_or}
-use Rattle.sheet.specs.Chain.{joints_of, joint_of, joint-zero, joint-more, joint-mono, joint-last}
-use Rattle.refusals.specs.Range.{every, every-none, every-turn}
-use Rattle.refusals.specs.Refusal.{value_fits, link_value_fits, block_fits}
+use mathlib.Core.Path.{◌≡◌}
+use Prim.Native.Nat.{◌+◌, ◌-◌, ◌≤◌}
+use lib.ListN.{length}
+use Rattle.sheet.specs.Chain.{joint_of}
+use Rattle.refusals.specs.Range.{every}
+use Rattle.refusals.specs.Refusal.{link_value_fits}
 use Rattle.refusals.proofs.lent.block_fits.Given as goal
 
 abbrev pub invariant-loop-l : goal.invariant-loop-l

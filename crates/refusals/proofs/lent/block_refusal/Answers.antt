@@ -5,7 +5,6 @@ use borrow.Author.Tests.{eq-eqb, ne_eqb}
 use Rattle.refusals.specs.Range.{every}
 use Rattle.refusals.specs.Refusal.{bad_block, block_refusal}
 use Rattle.refusals.specs.Plain.{near-block}
-use borrow.Author.Rules.{rules}
 use Rattle.refusals.proofs.lent.block_refusal.Goals as goal
 
 pub returns-then-block-block_length : goal.returns-then-block-block_length

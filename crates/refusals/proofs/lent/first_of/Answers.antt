@@ -1,7 +1,6 @@
 -- `lent::first_of` meets its contract: each return follows the tests before it.
 use borrow.Author.Tests.{eq-eqb, ne_eqb}
 use Rattle.refusals.specs.Lowest.{first_of}
-use borrow.Author.Rules.{rules}
 use Rattle.refusals.proofs.lent.first_of.Goals as goal
 
 pub returns-then-a-eq0 : goal.returns-then-a-eq0

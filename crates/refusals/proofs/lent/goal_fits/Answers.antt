@@ -1,8 +1,6 @@
 -- `lent::goal_fits` meets its contract: each return follows the tests before it.
 use mathlib.Core.Path.{sym, ◌∙◌}
-use borrow.Author.Tests.{not-true, not-false}
 use Rattle.refusals.specs.Refusal.{goal_fits}
-use borrow.Author.Rules.{rules}
 use Rattle.refusals.proofs.lent.goal_fits.Goals as goal
 
 pub returns-then-not-all_within : goal.returns-then-not-all_within

@@ -1,12 +1,11 @@
 use mathlib.Core.Path.{◌≡◌, sym, ap, ◌∙◌}
 use mathlib.Core.Bool.{true, false}
-use Prim.Native.Nat.{ℕ, ◌*◌, ◌/◌, ◌%◌, ◌-◌, ◌≤◌}
+use Prim.Native.Nat.{ℕ, ◌*◌, ◌/◌, ◌%◌}
 use native.Mathlib.Omega.{arith}
 use lib.Dec.{eqb}
 use borrow.Author.Tests.{eq-eqb, ne_eqb}
 use Rattle.refusals.specs.Range.{every, every-none, every-turn}
 use Rattle.refusals.specs.Refusal.{goal_fits, bad_goals, goals_refusal}
-use borrow.Author.Rules.{rules}
 use Rattle.refusals.proofs.lent.goals_refusal.Goals as goal
 
 other-count : (n k : ℕ) → (n / 13 ≡ k → ⊥) → eqb n (13 * k) ≡ false

@@ -1,14 +1,13 @@
 use mathlib.Core.Path.{◌≡◌, sym, ap, ◌∙◌}
 use mathlib.Core.Bool.{Bool}
 use mathlib.Core.List.{List}
-use Prim.Native.Nat.{ℕ, ◌+◌, ◌-◌, ◌*◌, ◌≤◌}
+use Prim.Native.Nat.{ℕ, ◌+◌, ◌*◌, ◌≤◌}
 use native.Mathlib.Omega.{arith}
 use lib.Ieee.{Float}
 use lib.ListN.{length, get_or}
-use Rattle.sheet.specs.Chain.{joints_of, joint_of, joint-zero, joint-more, joint-mono, joint-last}
+use Rattle.sheet.specs.Chain.{joints_of, joint-zero, joint-more, joint-mono, joint-last}
 use Rattle.refusals.specs.Range.{every, every-none, every-turn, every-across}
 use Rattle.refusals.specs.Refusal.{value_fits, link_value_fits, block_fits, history_fits}
-use borrow.Author.Rules.{rules}
 use Rattle.refusals.proofs.lent.history_fits.Goals as goal
 
 -- link l's joint fits in all four blocks

@@ -1,15 +1,14 @@
 -- `lent::history_fits` meets its contract. The loop carries the answer for the links passed, each in all four blocks, and the number of the
 -- next joint; link by link is block by block. The measure is the number of links left.
-use mathlib.Core.Path.{◌≡◌, sym, ap, ◌∙◌}
+use mathlib.Core.Path.{◌≡◌}
 use mathlib.Core.Bool.{Bool}
 use mathlib.Core.List.{List}
-use Prim.Native.Nat.{ℕ, ◌+◌, ◌-◌, ◌*◌, ◌≤◌}
-use native.Mathlib.Omega.{arith}
+use Prim.Native.Nat.{ℕ, ◌-◌, ◌*◌, ◌≤◌}
 use lib.Ieee.{Float}
-use lib.ListN.{length, get_or}
-use Rattle.sheet.specs.Chain.{joints_of, joint_of, joint-zero, joint-more, joint-mono, joint-last}
-use Rattle.refusals.specs.Range.{every, every-none, every-turn, every-across}
-use Rattle.refusals.specs.Refusal.{value_fits, link_value_fits, block_fits, history_fits}
+use lib.ListN.{length}
+use Rattle.sheet.specs.Chain.{joint_of}
+use Rattle.refusals.specs.Range.{every}
+use Rattle.refusals.specs.Refusal.{link_value_fits}
 use Rattle.refusals.proofs.lent.history_fits.Given as goal
 
 -- link l's joint fits in all four blocks

@@ -9,7 +9,6 @@ use Rattle.sheet.specs.Chain.{joints, joint-le, joint-last}
 use Rattle.refusals.specs.Range.{every}
 use Rattle.refusals.specs.Refusal.{bad_history, history_refusal}
 use Rattle.refusals.specs.Plain.{near-history}
-use borrow.Author.Rules.{rules}
 use Rattle.refusals.proofs.lent.history_refusal.Goals as goal
 
 pub overflow_mul-n : goal.overflow_mul-n

@@ -1,6 +1,5 @@
 -- `lent::joint_fits` meets its contract: its value is held to the range of its code.
 use Rattle.refusals.specs.Refusal.{joint_fits}
-use borrow.Author.Rules.{rules}
 use Rattle.refusals.proofs.lent.joint_fits.Goals as goal
 
 pub returns : goal.returns

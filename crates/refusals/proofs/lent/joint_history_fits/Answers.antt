@@ -4,12 +4,10 @@ use mathlib.Core.Bool.{true}
 use Prim.Native.Nat.{◌+◌, ◌*◌, ◌≤◌}
 use native.Mathlib.Omega.{arith}
 use lib.ListN.{length}
-use borrow.Author.Tests.{not-true, not-false}
 use Rattle.sheet.specs.Code.{has_joint, joint-there}
 use Rattle.sheet.specs.Chain.{joints-one}
 use Rattle.refusals.specs.Range.{every}
 use Rattle.refusals.specs.Refusal.{value_fits}
-use borrow.Author.Rules.{rules}
 use Rattle.refusals.proofs.lent.joint_history_fits.Goals as goal
 
 pub returns-then-not-has_joint : goal.returns-then-not-has_joint

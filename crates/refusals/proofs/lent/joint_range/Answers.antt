@@ -1,7 +1,6 @@
 -- `lent::joint_range` meets its contract: a bound for each kind.
 use mathlib.Core.Path.{sym, ap, ◌∙◌}
 use Rattle.refusals.specs.Refusal.{joint_range}
-use borrow.Author.Rules.{rules}
 use Rattle.refusals.proofs.lent.joint_range.Goals as goal
 
 pub returns-in-Fixed : goal.returns-in-Fixed

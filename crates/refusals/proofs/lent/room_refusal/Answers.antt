@@ -1,7 +1,6 @@
 -- `lent::room_refusal` meets its contract: each return follows the tests before it.
 use borrow.Author.Tests.{lt-ltb, le-ltb}
 use Rattle.refusals.specs.Refusal.{room_refusal}
-use borrow.Author.Rules.{rules}
 use Rattle.refusals.proofs.lent.room_refusal.Goals as goal
 
 pub returns-then-have-needed : goal.returns-then-have-needed

@@ -2,11 +2,9 @@
 use mathlib.Core.Path.{◌≡◌, sym, ◌∙◌}
 use mathlib.Core.Bool.{true}
 use native.Mathlib.Omega.{arith}
-use borrow.Author.Tests.{not-true, not-false}
 use Rattle.sheet.specs.Code.{has_joint, joint-there}
 use Rattle.sheet.specs.Chain.{joints-one}
 use Rattle.refusals.specs.Refusal.{value_fits}
-use borrow.Author.Rules.{rules}
 use Rattle.refusals.proofs.lent.value_fits.Goals as goal
 
 pub returns-then-not-has_joint : goal.returns-then-not-has_joint

@@ -1,6 +1,5 @@
 -- `lent::weight_fits` meets its contract: each return follows the tests before it.
 use Rattle.refusals.specs.Refusal.{weight_fits}
-use borrow.Author.Rules.{rules}
 use Rattle.refusals.proofs.lent.weight_fits.Goals as goal
 
 pub returns-then-weight : goal.returns-then-weight

@@ -1,10 +1,8 @@
 use mathlib.Core.Path.{◌≡◌, sym, ap, ◌∙◌}
-use Prim.Native.Nat.{◌-◌, ◌≤◌}
 use native.Mathlib.Omega.{arith}
 use borrow.Author.Tests.{eq-eqb, ne_eqb}
 use Rattle.refusals.specs.Range.{every, every-none, every-turn}
 use Rattle.refusals.specs.Refusal.{weight_fits_at, bad_weights, weights_refusal}
-use borrow.Author.Rules.{rules}
 use Rattle.refusals.proofs.lent.weights_refusal.Goals as goal
 
 pub returns-then-weights-ne8 : goal.returns-then-weights-ne8

@@ -1,11 +1,9 @@
 -- `lent::weights_refusal` meets its contract. The loop carries the answer for the weights passed.
 -- The measure is the number of weights left.
-use mathlib.Core.Path.{◌≡◌, sym, ap, ◌∙◌}
+use mathlib.Core.Path.{◌≡◌}
 use Prim.Native.Nat.{◌-◌, ◌≤◌}
-use native.Mathlib.Omega.{arith}
-use borrow.Author.Tests.{eq-eqb, ne_eqb}
-use Rattle.refusals.specs.Range.{every, every-none, every-turn}
-use Rattle.refusals.specs.Refusal.{weight_fits_at, bad_weights, weights_refusal}
+use Rattle.refusals.specs.Range.{every}
+use Rattle.refusals.specs.Refusal.{weight_fits_at}
 use Rattle.refusals.proofs.lent.weights_refusal.Given as goal
 
 abbrev pub invariant-loop-k : goal.invariant-loop-k

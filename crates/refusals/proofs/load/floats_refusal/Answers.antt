@@ -1,9 +1,7 @@
 use mathlib.Core.Path.{◌≡◌, sym, ap, ◌∙◌}
-use Prim.Native.Nat.{◌-◌, ◌≤◌}
 use native.Mathlib.Omega.{arith}
 use Rattle.refusals.specs.Range.{every, every-none, every-turn}
 use Rattle.refusals.specs.Refusal.{link_fits, bad_floats}
-use borrow.Author.Rules.{rules}
 use Rattle.refusals.proofs.load.floats_refusal.Goals as goal
 
 pub loop-l-init : goal.loop-l-init

@@ -1,10 +1,9 @@
 -- `load::floats_refusal` meets its contract. The loop carries the answer for the links passed.
 -- The measure is the number of links left.
-use mathlib.Core.Path.{◌≡◌, sym, ap, ◌∙◌}
+use mathlib.Core.Path.{◌≡◌}
 use Prim.Native.Nat.{◌-◌, ◌≤◌}
-use native.Mathlib.Omega.{arith}
-use Rattle.refusals.specs.Range.{every, every-none, every-turn}
-use Rattle.refusals.specs.Refusal.{link_fits, bad_floats}
+use Rattle.refusals.specs.Range.{every}
+use Rattle.refusals.specs.Refusal.{link_fits}
 use Rattle.refusals.proofs.load.floats_refusal.Given as goal
 
 abbrev pub invariant-loop-l : goal.invariant-loop-l

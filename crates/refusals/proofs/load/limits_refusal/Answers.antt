@@ -1,10 +1,8 @@
 use mathlib.Core.Path.{◌≡◌, sym, ap, ◌∙◌}
-use Prim.Native.Nat.{◌-◌, ◌≤◌}
 use native.Mathlib.Omega.{arith}
 use borrow.Author.Tests.{eq-eqb, ne_eqb}
 use Rattle.refusals.specs.Range.{every, every-none, every-turn}
 use Rattle.refusals.specs.Refusal.{limits_fit, bad_limits}
-use borrow.Author.Rules.{rules}
 use Rattle.refusals.proofs.load.limits_refusal.Goals as goal
 
 pub returns-then-limits-joints : goal.returns-then-limits-joints

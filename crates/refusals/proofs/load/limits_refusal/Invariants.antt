@@ -1,11 +1,9 @@
 -- `load::limits_refusal` meets its contract. The loop carries the answer for the joints passed.
 -- The measure is the number of joints left.
-use mathlib.Core.Path.{◌≡◌, sym, ap, ◌∙◌}
+use mathlib.Core.Path.{◌≡◌}
 use Prim.Native.Nat.{◌-◌, ◌≤◌}
-use native.Mathlib.Omega.{arith}
-use borrow.Author.Tests.{eq-eqb, ne_eqb}
-use Rattle.refusals.specs.Range.{every, every-none, every-turn}
-use Rattle.refusals.specs.Refusal.{limits_fit, bad_limits}
+use Rattle.refusals.specs.Range.{every}
+use Rattle.refusals.specs.Refusal.{limits_fit}
 use Rattle.refusals.proofs.load.limits_refusal.Given as goal
 
 abbrev pub invariant-loop-j : goal.invariant-loop-j

@@ -1,6 +1,5 @@
 -- `load::link_fits` meets its contract: the floats of its link.
 use Rattle.refusals.specs.Refusal.{link_fits}
-use borrow.Author.Rules.{rules}
 use Rattle.refusals.proofs.load.link_fits.Goals as goal
 
 pub returns : goal.returns

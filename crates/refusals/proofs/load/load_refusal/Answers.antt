@@ -1,6 +1,5 @@
 -- `load::load_refusal` meets its contract: a sheet's numbers, its limits asked.
 use Rattle.refusals.specs.Refusal.{load_refusal}
-use borrow.Author.Rules.{rules}
 use Rattle.refusals.proofs.load.load_refusal.Goals as goal
 
 pub returns : goal.returns

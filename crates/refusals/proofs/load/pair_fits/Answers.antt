@@ -1,7 +1,6 @@
 -- `load::pair_fits` meets its contract: each return follows the tests before it.
 use mathlib.Core.Path.{sym, ◌∙◌}
 use Rattle.refusals.specs.Refusal.{pair_fits}
-use borrow.Author.Rules.{rules}
 use Rattle.refusals.proofs.load.pair_fits.Goals as goal
 
 pub returns-then-free : goal.returns-then-free

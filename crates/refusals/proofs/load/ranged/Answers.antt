@@ -1,8 +1,6 @@
 -- `load::ranged` meets its contract: each return follows the tests before it.
 use mathlib.Core.Path.{sym, ◌∙◌}
-use borrow.Author.Tests.{not-true, not-false}
 use Rattle.refusals.specs.Refusal.{ranged_pair}
-use borrow.Author.Rules.{rules}
 use Rattle.refusals.proofs.load.ranged.Goals as goal
 
 pub returns-then-not-is_within : goal.returns-then-not-is_within

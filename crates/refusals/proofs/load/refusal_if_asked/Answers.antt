@@ -1,6 +1,5 @@
 -- `load::refusal_if_asked` meets its contract.
 
-use borrow.Author.Rules.{rules}
 use Rattle.refusals.proofs.load.refusal_if_asked.Goals as goal
 
 pub returns-then-asked : goal.returns-then-asked

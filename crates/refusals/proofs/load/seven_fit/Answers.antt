@@ -1,7 +1,6 @@
 -- `load::seven_fit` meets its contract: each return follows the tests before it.
 use mathlib.Core.Path.{sym, ◌∙◌}
 use Rattle.refusals.specs.Refusal.{seven_fit}
-use borrow.Author.Rules.{rules}
 use Rattle.refusals.proofs.load.seven_fit.Goals as goal
 
 pub returns-then-all_within : goal.returns-then-all_within

@@ -8,7 +8,6 @@ use Rattle.sheet.specs.Chain.{joints, joint-last}
 use Rattle.refusals.specs.Lowest.{first_of, first-zero, first_some}
 use Rattle.refusals.specs.Refusal.{bad_limits}
 use Rattle.refusals.specs.Passed.{Shape, shape-passed, sheet-first}
-use borrow.Author.Rules.{rules}
 use Rattle.refusals.proofs.load.sheet_refusal.Goals as goal
 
 pub returns-then-shape-ne0 : goal.returns-then-shape-ne0

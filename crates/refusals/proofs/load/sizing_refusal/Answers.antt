@@ -1,6 +1,5 @@
 -- `load::sizing_refusal` meets its contract: a sheet's numbers, its limits not asked.
 use Rattle.refusals.specs.Refusal.{sizing_refusal}
-use borrow.Author.Rules.{rules}
 use Rattle.refusals.proofs.load.sizing_refusal.Goals as goal
 
 pub returns : goal.returns

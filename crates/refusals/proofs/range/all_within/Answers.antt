@@ -1,8 +1,6 @@
 use mathlib.Core.Path.{◌≡◌, sym, ap, ◌∙◌}
-use Prim.Native.Nat.{◌-◌, ◌≤◌}
 use native.Mathlib.Omega.{arith}
 use Rattle.refusals.specs.Range.{every, every-none, every-turn, within_at}
-use borrow.Author.Rules.{rules}
 use Rattle.refusals.proofs.range.all_within.Goals as goal
 
 pub loop-i-init : goal.loop-i-init

@@ -1,9 +1,8 @@
 -- `range::all_within` meets its contract. The loop carries the answer for the floats passed.
 -- The measure is the number of floats left.
-use mathlib.Core.Path.{◌≡◌, sym, ap, ◌∙◌}
+use mathlib.Core.Path.{◌≡◌}
 use Prim.Native.Nat.{◌-◌, ◌≤◌}
-use native.Mathlib.Omega.{arith}
-use Rattle.refusals.specs.Range.{every, every-none, every-turn, within_at}
+use Rattle.refusals.specs.Range.{every, within_at}
 use Rattle.refusals.proofs.range.all_within.Given as goal
 
 abbrev pub invariant-loop-i : goal.invariant-loop-i

@@ -1,7 +1,6 @@
 -- `range::is_between` meets its contract: each return follows the tests before it.
 use borrow.Author.Tests.{le-leb, lt-leb}
 use Rattle.refusals.specs.Range.{between}
-use borrow.Author.Rules.{rules}
 use Rattle.refusals.proofs.range.is_between.Goals as goal
 
 pub returns-then-low-n : goal.returns-then-low-n

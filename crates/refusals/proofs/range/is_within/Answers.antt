@@ -1,6 +1,5 @@
 -- `range::is_within` meets its contract: each return follows the tests before it.
 use Rattle.refusals.specs.Range.{within}
-use borrow.Author.Rules.{rules}
 use Rattle.refusals.proofs.range.is_within.Goals as goal
 
 pub returns-then-bound-v : goal.returns-then-bound-v

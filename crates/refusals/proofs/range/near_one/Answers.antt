@@ -1,6 +1,5 @@
 -- `range::near_one` meets its contract: each return follows the tests before it.
 use Rattle.refusals.specs.Range.{near_one}
-use borrow.Author.Rules.{rules}
 use Rattle.refusals.proofs.range.near_one.Goals as goal
 
 pub returns-then-s : goal.returns-then-s

@@ -1,7 +1,6 @@
 -- `range::squares` meets its contract by computation.
 use mathlib.Core.Path.{refl}
 use Rattle.refusals.specs.Range.{squares_of}
-use borrow.Author.Rules.{rules}
 use Rattle.refusals.proofs.range.squares.Goals as goal
 
 pub returns : goal.returns

@@ -1,7 +1,6 @@
 -- `range::unit` meets its contract, from what the two calls ensure.
 use mathlib.Core.Path.{ap, ◌∙◌}
 use Rattle.refusals.specs.Range.{near_one, unit_at}
-use borrow.Author.Rules.{rules}
 use Rattle.refusals.proofs.range.unit.Goals as goal
 
 pub returns : goal.returns

@@ -1,11 +1,9 @@
 use mathlib.Core.Path.{◌≡◌, sym, ap, ◌∙◌}
 use mathlib.Core.Bool.{not}
-use Prim.Native.Nat.{◌-◌, ◌≤◌}
 use native.Mathlib.Omega.{arith}
 use lib.ListN.{length}
 use Rattle.refusals.specs.Range.{every, every-none, every-turn}
 use Rattle.refusals.specs.Refusal.{listed_code, listed_at, bad_codes}
-use borrow.Author.Rules.{rules}
 use Rattle.refusals.proofs.shape.bad_codes.Goals as goal
 
 pub loop-l-init : goal.loop-l-init

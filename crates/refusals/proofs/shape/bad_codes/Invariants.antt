@@ -1,12 +1,10 @@
 -- `shape::bad_codes` meets its contract. The loop carries the answer for the links passed.
 -- The measure is the number of links left.
-use mathlib.Core.Path.{◌≡◌, sym, ap, ◌∙◌}
-use mathlib.Core.Bool.{not}
+use mathlib.Core.Path.{◌≡◌}
 use Prim.Native.Nat.{◌-◌, ◌≤◌}
-use native.Mathlib.Omega.{arith}
 use lib.ListN.{length}
-use Rattle.refusals.specs.Range.{every, every-none, every-turn}
-use Rattle.refusals.specs.Refusal.{listed_code, listed_at, bad_codes}
+use Rattle.refusals.specs.Range.{every}
+use Rattle.refusals.specs.Refusal.{listed_at}
 use Rattle.refusals.proofs.shape.bad_codes.Given as goal
 
 abbrev pub invariant-loop-l : goal.invariant-loop-l

@@ -4,12 +4,11 @@ use Prim.Native.Nat.{ℕ, ◌+◌, ◌-◌, ◌≤◌}
 use native.Mathlib.Omega.{arith}
 use lib.Dec.{leb, eqb}
 use lib.ListN.{length, get_or}
-use borrow.Author.Tests.{lt-ltb, le-ltb, not-true, not-false}
+use borrow.Author.Tests.{lt-ltb, le-ltb}
 use Rattle.sheet.specs.Chain.{chain_start, chain-start-total, joint_of, joints, joint-last, joint-zero, chain_length}
 use Rattle.refusals.specs.Range.{every, every-none, every-turn}
 use Rattle.refusals.specs.Refusal.{two_joints, later_fits, bad_joints}
 use Rattle.sheet.specs.ChainTurn.{next-link, links-inside, next-joint, joint-grows, length-here}
-use borrow.Author.Rules.{rules}
 use Rattle.refusals.proofs.shape.bad_joints.Goals as goal
 
 pub overflow_cast-most : goal.overflow_cast-most

@@ -7,7 +7,6 @@ use lib.ListN.{length}
 use borrow.Author.Tests.{eq-eqb, ne_eqb}
 use Rattle.sheet.specs.Chain.{total}
 use Rattle.refusals.specs.Refusal.{bad_lengths}
-use borrow.Author.Rules.{rules}
 use Rattle.refusals.proofs.shape.bad_lengths.Goals as goal
 
 pub returns-then-codes-n : goal.returns-then-codes-n

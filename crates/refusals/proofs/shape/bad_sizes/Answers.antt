@@ -5,10 +5,9 @@ use mathlib.Core.List.{List}
 use Prim.Native.Nat.{ℕ}
 use native.Mathlib.Omega.{arith}
 use lib.ListN.{length}
-use borrow.Author.Tests.{eq-eqb, ne_eqb, not-true, not-false}
+use borrow.Author.Tests.{eq-eqb, ne_eqb}
 use Rattle.refusals.specs.Range.{every}
 use Rattle.refusals.specs.Refusal.{links_fit, bad_sizes}
-use borrow.Author.Rules.{rules}
 use Rattle.refusals.proofs.shape.bad_sizes.Goals as goal
 
 pub returns-then-sizes-eq0 : goal.returns-then-sizes-eq0

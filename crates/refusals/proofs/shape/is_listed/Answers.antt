@@ -1,7 +1,6 @@
 -- `shape::is_listed` meets its contract: an answer for each kind.
 use mathlib.Core.Path.{sym, ap, ◌∙◌}
 use Rattle.refusals.specs.Refusal.{listed_kind, listed_code}
-use borrow.Author.Rules.{rules}
 use Rattle.refusals.proofs.shape.is_listed.Goals as goal
 
 pub returns-in-Fixed : goal.returns-in-Fixed

@@ -1,6 +1,5 @@
 -- `shape::later_fits` meets its contract: each return follows the tests before it.
 use borrow.Author.Tests.{eq-eqb, ne_eqb}
-use borrow.Author.Rules.{rules}
 use Rattle.refusals.proofs.shape.later_fits.Goals as goal
 
 pub returns-then-c-eq0 : goal.returns-then-c-eq0

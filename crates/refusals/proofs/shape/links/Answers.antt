@@ -5,7 +5,6 @@ use Prim.Native.Nat.{ℕ, ◌-◌}
 use native.Mathlib.Omega.{arith}
 use lib.ListN.{length, take, drop, length-drop}
 use lib.Seq.{take_all, take-nil}
-use borrow.Author.Rules.{rules}
 use Rattle.refusals.proofs.shape.links.Goals as goal
 
 part_none : (xs : List ℕ) (n : ℕ) → length xs ≡ 0 → take n xs ≡ drop 1 xs

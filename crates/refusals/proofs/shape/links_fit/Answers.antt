@@ -1,10 +1,8 @@
 use mathlib.Core.Path.{◌≡◌, sym, ap, ◌∙◌}
-use Prim.Native.Nat.{◌-◌, ◌≤◌}
 use native.Mathlib.Omega.{arith}
 use lib.ListN.{length}
 use Rattle.refusals.specs.Range.{every, every-none, every-turn}
 use Rattle.refusals.specs.Refusal.{links_fit}
-use borrow.Author.Rules.{rules}
 use Rattle.refusals.proofs.shape.links_fit.Goals as goal
 
 pub loop-c-init : goal.loop-c-init

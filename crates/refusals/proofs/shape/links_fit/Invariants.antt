@@ -1,10 +1,9 @@
 -- `shape::links_fit` meets its contract. The loop carries the answer for the chains passed.
 -- The measure is the number of chains left.
-use mathlib.Core.Path.{◌≡◌, sym, ap, ◌∙◌}
+use mathlib.Core.Path.{◌≡◌}
 use Prim.Native.Nat.{◌-◌, ◌≤◌}
-use native.Mathlib.Omega.{arith}
 use lib.ListN.{length}
-use Rattle.refusals.specs.Range.{every, every-none, every-turn}
+use Rattle.refusals.specs.Range.{every}
 use Rattle.refusals.specs.Refusal.{links_fit}
 use Rattle.refusals.proofs.shape.links_fit.Given as goal
 

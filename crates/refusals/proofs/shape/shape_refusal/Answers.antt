@@ -9,7 +9,6 @@ use Rattle.sheet.specs.Chain.{total}
 use Rattle.refusals.specs.Lowest.{lowest_from, lowest}
 use Rattle.refusals.specs.Refusal.{links_of, bad_sizes, bad_lengths, bad_joints, shape_refusal}
 use Rattle.refusals.specs.Passed.{Sizes, sizes-passed, lengths-passed}
-use borrow.Author.Rules.{rules}
 use Rattle.refusals.proofs.shape.shape_refusal.Goals as goal
 
 pub returns-then-bad_sizes : goal.returns-then-bad_sizes

@@ -1,8 +1,7 @@
 -- `tools::tool_fits` meets its contract: each return follows the tests before it.
 use mathlib.Core.Path.{sym, ◌∙◌}
-use borrow.Author.Tests.{not-true, not-false, lt-ltb, le-ltb}
+use borrow.Author.Tests.{lt-ltb, le-ltb}
 use Rattle.refusals.specs.Refusal.{tool_fits}
-use borrow.Author.Rules.{rules}
 use Rattle.refusals.proofs.tools.tool_fits.Goals as goal
 
 pub returns-then-not-has_tool : goal.returns-then-not-has_tool

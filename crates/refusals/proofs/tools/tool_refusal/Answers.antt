@@ -2,7 +2,6 @@
 use mathlib.Core.Path.{sym, ◌∙◌}
 use borrow.Author.Tests.{eq-eqb, ne_eqb, lt-ltb, le-ltb}
 use Rattle.refusals.specs.Refusal.{bad_tool, tool_refusal}
-use borrow.Author.Rules.{rules}
 use Rattle.refusals.proofs.tools.tool_refusal.Goals as goal
 
 pub returns-then-c-chains : goal.returns-then-c-chains

@@ -1,9 +1,7 @@
 use mathlib.Core.Path.{◌≡◌, sym, ap, ◌∙◌}
-use Prim.Native.Nat.{◌-◌, ◌≤◌}
 use native.Mathlib.Omega.{arith}
 use Rattle.refusals.specs.Range.{every, every-none, every-turn}
 use Rattle.refusals.specs.Refusal.{tool_fits, bad_tools, tools_refusal}
-use borrow.Author.Rules.{rules}
 use Rattle.refusals.proofs.tools.tools_refusal.Goals as goal
 
 pub loop-c-init : goal.loop-c-init

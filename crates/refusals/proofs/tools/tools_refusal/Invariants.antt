@@ -1,10 +1,9 @@
 -- `tools::tools_refusal` meets its contract. The loop carries the answer for the chains passed.
 -- The measure is the number of chains left.
-use mathlib.Core.Path.{◌≡◌, sym, ap, ◌∙◌}
+use mathlib.Core.Path.{◌≡◌}
 use Prim.Native.Nat.{◌-◌, ◌≤◌}
-use native.Mathlib.Omega.{arith}
-use Rattle.refusals.specs.Range.{every, every-none, every-turn}
-use Rattle.refusals.specs.Refusal.{tool_fits, bad_tools, tools_refusal}
+use Rattle.refusals.specs.Range.{every}
+use Rattle.refusals.specs.Refusal.{tool_fits}
 use Rattle.refusals.proofs.tools.tools_refusal.Given as goal
 
 abbrev pub invariant-loop-c : goal.invariant-loop-c

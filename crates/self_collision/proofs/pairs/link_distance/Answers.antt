@@ -1,6 +1,5 @@
 -- `link_distance` meets its contract: the four points, then the distance.
 use Rattle.self_collision.specs.Pairs.{link_distance}
-use borrow.Author.Rules.{rules}
 use Rattle.self_collision.proofs.pairs.link_distance.Goals as goal
 
 pub returns : goal.returns

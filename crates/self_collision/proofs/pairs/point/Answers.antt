@@ -1,7 +1,6 @@
 -- `point` meets its contract: the origin, or the position after a link.
 use mathlib.Core.Path.{sym, ◌∙◌}
 use Rattle.self_collision.specs.Pairs.{point-zero, point-link}
-use borrow.Author.Rules.{rules}
 use Rattle.self_collision.proofs.pairs.point.Goals as goal
 
 pub returns-then-i-eq0 : goal.returns-then-i-eq0

@@ -6,7 +6,6 @@ use Rattle.lists.specs.Splice.{splice}
 use Rattle.lists.specs.Runs.{runs, runs_none, runs-fits, splice-none, splice-turn-at}
 use Rattle.manipulability.specs.View.{view_of}
 use Rattle.self_collision.specs.Pairs.{pairs_from, pairs_of, loss_from, last_from, row-length, pair-count, count-more, cached-turn}
-use borrow.Author.Rules.{rules}
 use Rattle.self_collision.proofs.pairs.put_chain.Goals as goal
 
 pub loop-j-init : goal.loop-j-init

@@ -1,12 +1,11 @@
 -- `put_chain` meets its contract: turn after turn one link's pairs more.
-use mathlib.Core.Path.{◌≡◌, refl, sym, ap, ◌∙◌}
-use Prim.Native.Nat.{ℕ, ◌+◌, ◌-◌, ◌≤◌}
-use native.Mathlib.Omega.{arith}
+use mathlib.Core.Path.{◌≡◌}
+use Prim.Native.Nat.{◌+◌, ◌-◌, ◌≤◌}
 use lib.ListN.{length}
 use Rattle.lists.specs.Splice.{splice}
-use Rattle.lists.specs.Runs.{runs, runs_none, runs-fits, splice-none, splice-turn-at}
+use Rattle.lists.specs.Runs.{runs}
 use Rattle.manipulability.specs.View.{view_of}
-use Rattle.self_collision.specs.Pairs.{pairs_from, pairs_of, loss_from, last_from, row-length, pair-count, count-more, cached-turn}
+use Rattle.self_collision.specs.Pairs.{pairs_from, loss_from}
 use Rattle.self_collision.proofs.pairs.put_chain.Given as goal
 
 abbrev pub invariant-loop-j : goal.invariant-loop-j

@@ -2,7 +2,6 @@
 use mathlib.Core.Path.{◌≡◌}
 use Rattle.manipulability.specs.View.{view_of}
 use Rattle.self_collision.specs.Pairs.{loss_from, cached-kept, cached-stored}
-use borrow.Author.Rules.{rules}
 use Rattle.self_collision.proofs.pairs.put_pair.Goals as goal
 
 pub returns-then-first-k : goal.returns-then-first-k

@@ -13,7 +13,6 @@ use Rattle.geometry.specs.declared.pose.Pose.{Pose}
 use Rattle.manipulability.specs.View.{view_of}
 use Rattle.manipulability.specs.Jacobian.{Part, chain-part}
 use Rattle.self_collision.specs.Pairs.{pairs_of, chain_pairs, all_pairs, first_arm, chain_lengths, loss_from, pair_loss, pair_last, pair_losses, pair_lasts, CachedPairs, pair-count, map_runs, lengths-count, count-more, cached-turn, view-part, first-start, arm-fits, losses-chain, lasts-chain}
-use borrow.Author.Rules.{rules}
 use Rattle.self_collision.proofs.pairs.put_pairs.Goals as goal
 
 -- what the pairs of chain c cost, and their last links

@@ -1,19 +1,16 @@
 -- `put_pairs` meets its contract: turn after turn one chain's pairs more.
-use mathlib.Core.Path.{◌≡◌, refl, sym, ap, ◌∙◌}
+use mathlib.Core.Path.{◌≡◌}
 use mathlib.Core.Bool.{Bool}
 use mathlib.Core.List.{List, map}
-use Prim.Native.Nat.{ℕ, ◌+◌, ◌-◌, ◌≤◌, ◌<◌}
-use native.Mathlib.Omega.{arith}
+use Prim.Native.Nat.{ℕ, ◌+◌, ◌-◌, ◌≤◌}
 use lib.Ieee.{Float}
-use lib.ListN.{length, get_or, length-map}
+use lib.ListN.{length}
 use Rattle.lists.specs.Splice.{splice}
-use Rattle.lists.specs.Runs.{runs, runs_none, runs-fits, splice-none, splice-turn-at}
-use Rattle.sheet.specs.Chain.{chain_start, chain-start-next, joint_of, joint-mono, joint-zero, chain_length}
-use Rattle.sheet.specs.ChainTurn.{length-here}
+use Rattle.lists.specs.Runs.{runs}
+use Rattle.sheet.specs.Chain.{chain_start, joint_of}
 use Rattle.geometry.specs.declared.pose.Pose.{Pose}
 use Rattle.manipulability.specs.View.{view_of}
-use Rattle.manipulability.specs.Jacobian.{Part, chain-part}
-use Rattle.self_collision.specs.Pairs.{pairs_of, chain_pairs, all_pairs, first_arm, chain_lengths, loss_from, pair_loss, pair_last, pair_losses, pair_lasts, CachedPairs, pair-count, map_runs, lengths-count, count-more, cached-turn, view-part, first-start, arm-fits, losses-chain, lasts-chain}
+use Rattle.self_collision.specs.Pairs.{chain_pairs, first_arm, chain_lengths, pair_loss}
 use Rattle.self_collision.proofs.pairs.put_pairs.Given as goal
 
 -- what the pairs of chain c cost, and their last links

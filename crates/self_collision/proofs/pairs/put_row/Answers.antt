@@ -1,12 +1,10 @@
 use mathlib.Core.Path.{◌≡◌, refl, ap, ◌∙◌}
-use Prim.Native.Nat.{ℕ, ◌+◌, ◌-◌, ◌≤◌}
+use Prim.Native.Nat.{ℕ, ◌+◌, ◌-◌}
 use native.Mathlib.Omega.{arith}
-use lib.ListN.{length}
 use Rattle.lists.specs.Splice.{splice}
 use Rattle.lists.specs.Runs.{runs, length_runs, splice-start, splice-turn}
 use Rattle.manipulability.specs.View.{view_of}
 use Rattle.self_collision.specs.Pairs.{pair_at, pairs_from, loss_from, last_from, row-length, cached-turn, view-part}
-use borrow.Author.Rules.{rules}
 use Rattle.self_collision.proofs.pairs.put_row.Goals as goal
 
 pub overflow_add-k : goal.overflow_add-k

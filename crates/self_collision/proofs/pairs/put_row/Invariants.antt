@@ -1,12 +1,11 @@
 -- `put_row` meets its contract: turn after turn one pair more.
-use mathlib.Core.Path.{◌≡◌, refl, ap, ◌∙◌}
-use Prim.Native.Nat.{ℕ, ◌+◌, ◌-◌, ◌≤◌}
-use native.Mathlib.Omega.{arith}
+use mathlib.Core.Path.{◌≡◌}
+use Prim.Native.Nat.{◌+◌, ◌-◌, ◌≤◌}
 use lib.ListN.{length}
 use Rattle.lists.specs.Splice.{splice}
-use Rattle.lists.specs.Runs.{runs, length_runs, splice-start, splice-turn}
+use Rattle.lists.specs.Runs.{runs}
 use Rattle.manipulability.specs.View.{view_of}
-use Rattle.self_collision.specs.Pairs.{pair_at, pairs_from, loss_from, last_from, row-length, cached-turn, view-part}
+use Rattle.self_collision.specs.Pairs.{pair_at, loss_from}
 use Rattle.self_collision.proofs.pairs.put_row.Given as goal
 
 abbrev pub invariant-loop-k : goal.invariant-loop-k

@@ -1,9 +1,5 @@
-use mathlib.Core.Path.{◌≡◌}
-use Prim.Native.Nat.{◌+◌, ◌-◌, ◌*◌, ◌≤◌}
 use native.Mathlib.Omega.{arith}
-use lib.ListN.{length, drop}
-use Rattle.sheet.specs.Chain.{end_in, end-inner, end-next, end_none}
-use borrow.Author.Rules.{rules}
+use Rattle.sheet.specs.Chain.{end-inner, end-next, end_none}
 use Rattle.sheet.proofs.chain.chain_end.Goals as goal
 
 pub loop-c-init : goal.loop-c-init

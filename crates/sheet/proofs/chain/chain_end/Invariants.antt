@@ -2,9 +2,8 @@
 -- The measure is the number of chains left.
 use mathlib.Core.Path.{◌≡◌}
 use Prim.Native.Nat.{◌+◌, ◌-◌, ◌*◌, ◌≤◌}
-use native.Mathlib.Omega.{arith}
 use lib.ListN.{length, drop}
-use Rattle.sheet.specs.Chain.{end_in, end-inner, end-next, end_none}
+use Rattle.sheet.specs.Chain.{end_in}
 use Rattle.sheet.proofs.chain.chain_end.Given as goal
 
 abbrev pub invariant-loop-c : goal.invariant-loop-c

@@ -3,7 +3,6 @@ use mathlib.Core.Path.{sym, ◌∙◌}
 use native.Mathlib.Omega.{arith}
 use Rattle.sheet.specs.Code.{joint-there, joint-missing}
 use Rattle.sheet.specs.Chain.{joints-fixed, joints-one}
-use borrow.Author.Rules.{rules}
 use Rattle.sheet.proofs.chain.counted.Goals as goal
 
 pub returns-then-has_joint : goal.returns-then-has_joint

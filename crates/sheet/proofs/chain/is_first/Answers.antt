@@ -1,9 +1,6 @@
-use mathlib.Core.Path.{◌≡◌, refl, sym, ap, ◌∙◌}
-use Prim.Native.Nat.{◌-◌, ◌≤◌}
+use mathlib.Core.Path.{refl, sym, ap, ◌∙◌}
 use native.Mathlib.Omega.{arith}
-use lib.ListN.{length, drop}
 use Rattle.sheet.specs.Chain.{first_in, first-zero, first_inner, first_next, first-none}
-use borrow.Author.Rules.{rules}
 use Rattle.sheet.proofs.chain.is_first.Goals as goal
 
 pub loop-c-init : goal.loop-c-init

@@ -1,10 +1,9 @@
 -- `chain::is_first` meets its contract. The loop's invariant: the answer is that of the chains left for the links left of `link`.
 -- The measure is the number of chains left.
-use mathlib.Core.Path.{◌≡◌, refl, sym, ap, ◌∙◌}
+use mathlib.Core.Path.{◌≡◌}
 use Prim.Native.Nat.{◌-◌, ◌≤◌}
-use native.Mathlib.Omega.{arith}
 use lib.ListN.{length, drop}
-use Rattle.sheet.specs.Chain.{first_in, first-zero, first_inner, first_next, first-none}
+use Rattle.sheet.specs.Chain.{first_in}
 use Rattle.sheet.proofs.chain.is_first.Given as goal
 
 abbrev pub invariant-loop-c : goal.invariant-loop-c

@@ -1,11 +1,9 @@
 -- `joint_number` meets its contract: the part before the link has its joints.
 use mathlib.Core.Path.{◌≡◌, sym, ap, ◌∙◌}
-use Prim.Native.Nat.{ℕ}
 use native.Mathlib.Omega.{arith}
 use lib.ListN.{length, take}
 use lib.Seq.{length-take-le}
 use Rattle.sheet.specs.Chain.{joint_of, joint-part}
-use borrow.Author.Rules.{rules}
 use Rattle.sheet.proofs.chain.joint_number.Goals as goal
 
 pub slice_bounds-before-end : goal.slice_bounds-before-end

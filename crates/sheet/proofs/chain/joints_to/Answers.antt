@@ -1,4 +1,4 @@
-use Rattle.std.proofs.Common.{◌≡◌, ◌∙◌, ◌+◌, ◌≤◌, ℕ, List, get_or, sym, ap, arith}
+use Rattle.std.proofs.Common.{◌≡◌, ◌∙◌, ◌+◌, ℕ, List, get_or, sym, ap, arith}
 use Rattle.sheet.specs.Chain.{joints_of, joint_of, joint-zero, joint-more, joint-le}
 use Rattle.sheet.proofs.chain.joints_to.Goals as goal
 
@@ -21,5 +21,5 @@ loop-r-preserved c =
     let at : c.moved-r.result.link ≡ l + 1 = c.moved-r.ensures.1 in
     let code : c.next.result ≡ get_or cs l 0 = c.next.ensures ∙ ap (λ (xs : List ℕ). get_or xs l 0) i.1 in
     let j : c.counted-j.result ≡ joint_of cs l + joints_of (get_or cs l 0) =
-        c.counted-j.ensures ∙ ap (λ (k : ℕ). c.loop-r.j + joints_of k) code ∙ ap (λ (k : ℕ). k + joints_of (get_or cs l 0)) i.2 in
+    c.counted-j.ensures ∙ ap (λ (k : ℕ). c.loop-r.j + joints_of k) code ∙ ap (λ (k : ℕ). k + joints_of (get_or cs l 0)) i.2 in
     (omega arith, ap (λ r. r.now) c.moved-r.ensures.0 ∙ i.1, j ∙ sym (joint-more cs l) ∙ ap (joint_of cs) (sym at))

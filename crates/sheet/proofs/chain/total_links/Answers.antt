@@ -1,9 +1,5 @@
-use mathlib.Core.Path.{◌≡◌}
-use Prim.Native.Nat.{◌+◌, ◌-◌, ◌*◌, ◌≤◌}
 use native.Mathlib.Omega.{arith}
-use lib.ListN.{length, drop}
-use Rattle.sheet.specs.Chain.{total, total-next, total-none}
-use borrow.Author.Rules.{rules}
+use Rattle.sheet.specs.Chain.{total-next, total-none}
 use Rattle.sheet.proofs.chain.total_links.Goals as goal
 
 pub loop-c-init : goal.loop-c-init

@@ -2,9 +2,8 @@
 -- The measure is the number of chains left.
 use mathlib.Core.Path.{◌≡◌}
 use Prim.Native.Nat.{◌+◌, ◌-◌, ◌*◌, ◌≤◌}
-use native.Mathlib.Omega.{arith}
 use lib.ListN.{length, drop}
-use Rattle.sheet.specs.Chain.{total, total-next, total-none}
+use Rattle.sheet.specs.Chain.{total}
 use Rattle.sheet.proofs.chain.total_links.Given as goal
 
 abbrev pub invariant-loop-c : goal.invariant-loop-c

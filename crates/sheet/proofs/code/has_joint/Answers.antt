@@ -1,7 +1,6 @@
 -- `code::has_joint` meets its contract: the test itself.
 use mathlib.Core.Path.{refl}
 use Rattle.sheet.specs.Code.{has_joint}
-use borrow.Author.Rules.{rules}
 use Rattle.sheet.proofs.code.has_joint.Goals as goal
 
 pub returns : goal.returns

@@ -1,7 +1,6 @@
 -- `take_apart` meets its contract: each return follows the tests before it.
 use borrow.Author.Tests.{eq-eqb, ne_eqb, lt-ltb, le-ltb}
 use Rattle.sheet.specs.Code.{kind_of}
-use borrow.Author.Rules.{rules}
 use Rattle.sheet.proofs.code.take_apart.Goals as goal
 
 pub returns-then-code-eq0 : goal.returns-then-code-eq0

@@ -1,8 +1,6 @@
 -- `reader::code_at` meets its contract: past the end of the list the code is 0.
-use mathlib.Core.Path.{refl}
 use Prim.Native.Nat.{ℕ}
 use lib.ListN.{get_or-eq_default}
-use borrow.Author.Rules.{rules}
 use Rattle.sheet.proofs.reader.code_at.Goals as goal
 
 pub returns-else-link-codes : goal.returns-else-link-codes

@@ -1,7 +1,6 @@
 -- `has_tool` meets its contract: the test itself.
 use mathlib.Core.Path.{refl}
 use Rattle.sheet.specs.Tool.{has_tool}
-use borrow.Author.Rules.{rules}
 use Rattle.sheet.proofs.tool.has_tool.Goals as goal
 
 pub returns : goal.returns

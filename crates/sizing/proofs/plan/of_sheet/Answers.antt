@@ -1,6 +1,5 @@
 -- `plan::of_sheet` meets its contract: each length is asked of the function that refusal 9 asks.
 use Rattle.sizing.specs.Sizing.{plan-made}
-use borrow.Author.Rules.{rules}
 use Rattle.sizing.proofs.plan.of_sheet.Goals as goal
 
 pub returns : goal.returns

@@ -5,7 +5,6 @@ use Prim.Native.Nat.{ℕ}
 use Rattle.refusals.specs.Refusal.{sizing_refusal}
 use Rattle.sizing.specs.declared.plan.Sizing.TheVariants.{Planned, Refused}
 use Rattle.sizing.specs.Sizing.{plan_of, sizing-refused, sizing-taken, sizing-accepted}
-use borrow.Author.Rules.{rules}
 use Rattle.sizing.proofs.sizing.sizing.Goals as goal
 
 pub returns-then-number-ne0 : goal.returns-then-number-ne0

@@ -1,7 +1,6 @@
 -- `about` meets its contract: each return follows the test.
 use borrow.Author.Tests.{eq-eqb, ne_eqb}
 use Rattle.spacetime.specs.Link.{about_of}
-use borrow.Author.Rules.{rules}
 use Rattle.spacetime.proofs.arm.about.Goals as goal
 
 pub returns-then-axis-eq0 : goal.returns-then-axis-eq0

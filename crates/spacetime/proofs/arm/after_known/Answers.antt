@@ -1,7 +1,6 @@
 -- `after_known` meets its contract: the rotation that is read is the one after the link.
 use mathlib.Core.Path.{◌∙◌}
 use Rattle.spacetime.specs.Turns.{pose-known}
-use borrow.Author.Rules.{rules}
 use Rattle.spacetime.proofs.arm.after_known.Goals as goal
 
 pub returns : goal.returns

@@ -1,7 +1,6 @@
 -- `along` meets its contract: each return follows the tests before it.
 use borrow.Author.Tests.{eq-eqb, ne_eqb}
 use Rattle.spacetime.specs.Link.{along_of}
-use borrow.Author.Rules.{rules}
 use Rattle.spacetime.proofs.arm.along.Goals as goal
 
 pub returns-then-coordinate-eq1 : goal.returns-then-coordinate-eq1

@@ -1,6 +1,5 @@
 -- `carried` meets its contract: by what its two calls ensure.
 use Rattle.spacetime.specs.Link.{carried_of}
-use borrow.Author.Rules.{rules}
 use Rattle.spacetime.proofs.arm.carried.Goals as goal
 
 pub returns : goal.returns

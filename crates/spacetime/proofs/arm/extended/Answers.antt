@@ -1,6 +1,5 @@
 -- `extended` meets its contract: only a telescoping link's call ensures anything.
 use Rattle.spacetime.specs.Link.{extended_of}
-use borrow.Author.Rules.{rules}
 use Rattle.spacetime.proofs.arm.extended.Goals as goal
 
 pub returns-in-Turning : goal.returns-in-Turning

@@ -1,7 +1,6 @@
 -- `get_frames_immutable` meets its contract: the rotations that the walk reads are those made of the turns that were put.
 use native.Mathlib.Omega.{arith}
 use Rattle.spacetime.specs.Turns.{turns-turned, turned-rotated}
-use borrow.Author.Rules.{rules}
 use Rattle.spacetime.proofs.arm.get_frames_immutable.Goals as goal
 
 pub walk-requires : goal.walk-requires

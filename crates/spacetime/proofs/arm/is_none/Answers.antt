@@ -3,7 +3,6 @@ use mathlib.Core.Path.{◌≡◌, refl}
 use mathlib.Core.Bool.{Bool, true, false, not, true≢false, false≢true}
 use lib.Ieee.{Float, eq, ne}
 use Rattle.spacetime.specs.Link.{is_none}
-use borrow.Author.Rules.{rules}
 use Rattle.spacetime.proofs.arm.is_none.Goals as goal
 
 -- a test for another value, told as one for the same

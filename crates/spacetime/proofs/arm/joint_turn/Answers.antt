@@ -1,6 +1,5 @@
 -- `joint_turn` meets its contract: each kind by what its call ensures.
 use Rattle.spacetime.specs.Link.{joint_turn}
-use borrow.Author.Rules.{rules}
 use Rattle.spacetime.proofs.arm.joint_turn.Goals as goal
 
 pub returns-in-Turning : goal.returns-in-Turning

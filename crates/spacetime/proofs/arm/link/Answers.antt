@@ -3,7 +3,6 @@ use mathlib.Core.Path.{ap, ◌∙◌}
 use Rattle.geometry.specs.declared.quaternion.Quat.{Quat}
 use Rattle.spacetime.specs.Link.{offset_of, turned_by}
 use Rattle.spacetime.specs.Turns.{link-made}
-use borrow.Author.Rules.{rules}
 use Rattle.spacetime.proofs.arm.link.Goals as goal
 
 pub returns : goal.returns

@@ -1,6 +1,5 @@
 -- `moved` meets its contract: each kind by what its calls ensure.
 use Rattle.spacetime.specs.Link.{moved_of}
-use borrow.Author.Rules.{rules}
 use Rattle.spacetime.proofs.arm.moved.Goals as goal
 
 pub returns-in-Turning : goal.returns-in-Turning

@@ -1,6 +1,5 @@
 -- `offset` meets its contract: each return follows the test.
 use Rattle.spacetime.specs.Link.{offset_of}
-use borrow.Author.Rules.{rules}
 use Rattle.spacetime.proofs.arm.offset.Goals as goal
 
 pub returns-then-is_none : goal.returns-then-is_none

@@ -2,7 +2,6 @@
 use mathlib.Core.Path.{ap, ◌∙◌}
 use Rattle.geometry.specs.Quaternion.{rotate_of}
 use Rattle.spacetime.specs.Link.{own_axis_of}
-use borrow.Author.Rules.{rules}
 use Rattle.spacetime.proofs.arm.own_axis.Goals as goal
 
 pub returns : goal.returns

@@ -1,12 +1,11 @@
 use mathlib.Core.Path.{◌≡◌, refl, sym, ap, ◌∙◌}
-use Prim.Native.Nat.{ℕ, ◌+◌, ◌-◌, ◌≤◌}
+use Prim.Native.Nat.{ℕ, ◌+◌}
 use native.Mathlib.Omega.{arith}
 use lib.ListN.{length, get_or}
 use Rattle.geometry.specs.declared.quaternion.Quat.{Quat}
 use Rattle.lists.specs.Splice.{splice}
 use Rattle.sheet.specs.Chain.{joints_of, joint_of, joint-zero, joint-more, joint-mono, joint-last, joint-le}
 use Rattle.spacetime.specs.Turns.{quats_of, quats-none, quats-turn, turn_at, turns_of}
-use borrow.Author.Rules.{rules}
 use Rattle.spacetime.proofs.arm.put_turns.Goals as goal
 
 pub loop-at-init : goal.loop-at-init

@@ -1,12 +1,10 @@
 -- `put_turns` meets its contract: turn after turn one joint more.
-use mathlib.Core.Path.{◌≡◌, refl, sym, ap, ◌∙◌}
-use Prim.Native.Nat.{ℕ, ◌+◌, ◌-◌, ◌≤◌}
-use native.Mathlib.Omega.{arith}
-use lib.ListN.{length, get_or}
-use Rattle.geometry.specs.declared.quaternion.Quat.{Quat}
+use mathlib.Core.Path.{◌≡◌}
+use Prim.Native.Nat.{◌-◌, ◌≤◌}
+use lib.ListN.{length}
 use Rattle.lists.specs.Splice.{splice}
-use Rattle.sheet.specs.Chain.{joints_of, joint_of, joint-zero, joint-more, joint-mono, joint-last, joint-le}
-use Rattle.spacetime.specs.Turns.{quats_of, quats-none, quats-turn, turn_at, turns_of}
+use Rattle.sheet.specs.Chain.{joint_of}
+use Rattle.spacetime.specs.Turns.{quats_of, turn_at}
 use Rattle.spacetime.proofs.arm.put_turns.Given as goal
 
 abbrev pub invariant-loop-at : goal.invariant-loop-at

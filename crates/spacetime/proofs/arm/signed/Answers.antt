@@ -1,7 +1,6 @@
 -- `signed` meets its contract: each return follows the test.
 use borrow.Author.Tests.{lt-ltb, le-ltb}
 use Rattle.spacetime.specs.Link.{signed_by}
-use borrow.Author.Rules.{rules}
 use Rattle.spacetime.proofs.arm.signed.Goals as goal
 
 pub returns-then-axis-gt3 : goal.returns-then-axis-gt3

@@ -3,7 +3,6 @@ use mathlib.Core.Path.{ap, ◌∙◌}
 use borrow.Author.Tests.{eq-eqb, ne_eqb}
 use Rattle.geometry.specs.Vector.{add_of}
 use Rattle.spacetime.specs.Link.{slid_of}
-use borrow.Author.Rules.{rules}
 use Rattle.spacetime.proofs.arm.slid.Goals as goal
 
 pub returns-then-axis-eq0 : goal.returns-then-axis-eq0

@@ -1,6 +1,5 @@
 -- `start` meets its contract: each return follows the test.
 use Rattle.spacetime.specs.Walk.{start_of}
-use borrow.Author.Rules.{rules}
 use Rattle.spacetime.proofs.arm.start.Goals as goal
 
 pub returns-then-is_first : goal.returns-then-is_first

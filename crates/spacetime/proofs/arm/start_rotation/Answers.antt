@@ -1,6 +1,5 @@
 -- `start_rotation` meets its contract: each return follows the test.
 use Rattle.spacetime.specs.Turns.{start_turn}
-use borrow.Author.Rules.{rules}
 use Rattle.spacetime.proofs.arm.start_rotation.Goals as goal
 
 pub returns-then-is_first : goal.returns-then-is_first

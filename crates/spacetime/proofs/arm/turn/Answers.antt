@@ -3,7 +3,6 @@ use mathlib.Core.Path.{ap, ◌∙◌}
 use borrow.Author.Tests.{eq-eqb, ne_eqb}
 use Rattle.geometry.specs.Quaternion.{quat_x_of, quat_y_of, quat_z_of}
 use Rattle.spacetime.specs.Link.{turn_of}
-use borrow.Author.Rules.{rules}
 use Rattle.spacetime.proofs.arm.turn.Goals as goal
 
 pub returns-then-coordinate-eq1 : goal.returns-then-coordinate-eq1

@@ -1,6 +1,5 @@
 -- `turned` meets its contract: each kind by what its call ensures.
 use Rattle.spacetime.specs.Link.{turned_by}
-use borrow.Author.Rules.{rules}
 use Rattle.spacetime.proofs.arm.turned.Goals as goal
 
 pub returns-in-Turning : goal.returns-in-Turning

@@ -4,7 +4,6 @@ use native.Mathlib.Omega.{arith}
 use Rattle.sheet.specs.Code.{joint-there}
 use Rattle.sheet.specs.Chain.{joints-one}
 use Rattle.spacetime.specs.Walk.{value_of}
-use borrow.Author.Rules.{rules}
 use Rattle.spacetime.proofs.arm.value.Goals as goal
 
 pub bounds-block-joint : goal.bounds-block-joint

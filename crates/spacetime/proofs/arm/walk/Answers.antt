@@ -1,13 +1,12 @@
 use mathlib.Core.Path.{◌≡◌, refl, sym, ap, ◌∙◌}
-use Prim.Native.Nat.{ℕ, ◌+◌, ◌-◌, ◌*◌, ◌≤◌}
+use Prim.Native.Nat.{ℕ, ◌+◌, ◌*◌}
 use native.Mathlib.Omega.{arith}
 use lib.ListN.{length, get_or}
 use Rattle.geometry.specs.declared.pose.Pose.{Pose}
 use Rattle.lists.specs.Splice.{splice}
 use Rattle.lists.specs.Runs.{runs, length_runs, splice-start-at, splice-turn-at}
-use Rattle.sheet.specs.Chain.{joints_of, joint_of, first-zero, joint-zero, joint-more, joint-mono, joint-last, joint-le}
-use Rattle.spacetime.specs.Walk.{after_link, start_of, before_of, pose_of, poses, poses-length, frames_of, start-zero, pose-made, flat-made, next-met}
-use borrow.Author.Rules.{rules}
+use Rattle.sheet.specs.Chain.{joints_of, first-zero, joint-zero, joint-more, joint-mono, joint-last, joint-le}
+use Rattle.spacetime.specs.Walk.{after_link, pose_of, poses, poses-length, frames_of, start-zero, pose-made, flat-made, next-met}
 use Rattle.spacetime.proofs.arm.walk.Goals as goal
 
 pub loop-at-init : goal.loop-at-init

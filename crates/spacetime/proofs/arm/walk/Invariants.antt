@@ -1,13 +1,11 @@
 -- `walk` meets its contract: turn after turn one pose more.
-use mathlib.Core.Path.{◌≡◌, refl, sym, ap, ◌∙◌}
-use Prim.Native.Nat.{ℕ, ◌+◌, ◌-◌, ◌*◌, ◌≤◌}
-use native.Mathlib.Omega.{arith}
-use lib.ListN.{length, get_or}
-use Rattle.geometry.specs.declared.pose.Pose.{Pose}
+use mathlib.Core.Path.{◌≡◌}
+use Prim.Native.Nat.{◌-◌, ◌≤◌}
+use lib.ListN.{length}
 use Rattle.lists.specs.Splice.{splice}
-use Rattle.lists.specs.Runs.{runs, length_runs, splice-start-at, splice-turn-at}
-use Rattle.sheet.specs.Chain.{joints_of, joint_of, first-zero, joint-zero, joint-more, joint-mono, joint-last, joint-le}
-use Rattle.spacetime.specs.Walk.{after_link, start_of, before_of, pose_of, poses, poses-length, frames_of, start-zero, pose-made, flat-made, next-met}
+use Rattle.lists.specs.Runs.{runs}
+use Rattle.sheet.specs.Chain.{joint_of}
+use Rattle.spacetime.specs.Walk.{start_of, before_of, poses}
 use Rattle.spacetime.proofs.arm.walk.Given as goal
 
 abbrev pub invariant-loop-at : goal.invariant-loop-at

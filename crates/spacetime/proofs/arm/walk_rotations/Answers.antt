@@ -1,14 +1,13 @@
 use mathlib.Core.Path.{◌≡◌, refl, ap, ◌∙◌}
 use mathlib.Core.List.{List}
-use Prim.Native.Nat.{ℕ, ◌-◌, ◌*◌, ◌≤◌}
+use Prim.Native.Nat.{ℕ, ◌*◌, ◌≤◌}
 use native.Mathlib.Omega.{arith}
 use lib.Ieee.{Float}
 use lib.ListN.{length}
 use Rattle.lists.specs.Splice.{splice}
 use Rattle.sheet.specs.Chain.{first-zero}
 use Rattle.spacetime.specs.Floats.{quat_at}
-use Rattle.spacetime.specs.Turns.{quats_of, quats-none, quats-turn, quats-ahead, start_turn, met_by, rotation_by, rotations_by, met-zero, met-more, rotation-made}
-use borrow.Author.Rules.{rules}
+use Rattle.spacetime.specs.Turns.{quats_of, quats-none, quats-turn, quats-ahead, rotation_by, rotations_by, met-zero, met-more, rotation-made}
 use Rattle.spacetime.proofs.arm.walk_rotations.Goals as goal
 
 pub loop-at-init : goal.loop-at-init

@@ -1,14 +1,9 @@
 -- `walk_rotations` meets its contract: turn after turn one rotation more, and the turns ahead as they came.
-use mathlib.Core.Path.{◌≡◌, refl, ap, ◌∙◌}
-use mathlib.Core.List.{List}
-use Prim.Native.Nat.{ℕ, ◌-◌, ◌*◌, ◌≤◌}
-use native.Mathlib.Omega.{arith}
-use lib.Ieee.{Float}
+use mathlib.Core.Path.{◌≡◌}
+use Prim.Native.Nat.{◌-◌, ◌≤◌}
 use lib.ListN.{length}
 use Rattle.lists.specs.Splice.{splice}
-use Rattle.sheet.specs.Chain.{first-zero}
-use Rattle.spacetime.specs.Floats.{quat_at}
-use Rattle.spacetime.specs.Turns.{quats_of, quats-none, quats-turn, quats-ahead, start_turn, met_by, rotation_by, rotations_by, met-zero, met-more, rotation-made}
+use Rattle.spacetime.specs.Turns.{quats_of, start_turn, met_by, rotation_by}
 use Rattle.spacetime.proofs.arm.walk_rotations.Given as goal
 
 abbrev pub invariant-loop-at : goal.invariant-loop-at

@@ -1,6 +1,5 @@
 -- `get` meets its contract: by what its two calls ensure.
 use Rattle.spacetime.specs.Floats.{pose_at}
-use borrow.Author.Rules.{rules}
 use Rattle.spacetime.proofs.floats.get.Goals as goal
 
 pub returns : goal.returns

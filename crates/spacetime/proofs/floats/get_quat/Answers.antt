@@ -1,7 +1,6 @@
 -- `get_quat` meets its contract: float after float.
 use mathlib.Core.Path.{refl}
 use Rattle.spacetime.specs.Floats.{quat_at}
-use borrow.Author.Rules.{rules}
 use Rattle.spacetime.proofs.floats.get_quat.Goals as goal
 
 pub returns : goal.returns

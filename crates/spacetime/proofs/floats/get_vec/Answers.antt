@@ -1,7 +1,6 @@
 -- `get_vec` meets its contract: float after float.
 use mathlib.Core.Path.{refl}
 use Rattle.spacetime.specs.Floats.{vec_at}
-use borrow.Author.Rules.{rules}
 use Rattle.spacetime.proofs.floats.get_vec.Goals as goal
 
 pub returns : goal.returns

@@ -6,7 +6,6 @@ use native.Mathlib.Omega.{arith}
 use lib.Ieee.{Float}
 use Rattle.lists.specs.Splice.{splice, splice-splice}
 use Rattle.spacetime.specs.Floats.{flat, flat_vec, flat_quat, vec-length}
-use borrow.Author.Rules.{rules}
 use Rattle.spacetime.proofs.floats.put.Goals as goal
 
 pub returns : goal.returns

@@ -3,7 +3,6 @@ use native.Mathlib.Omega.{arith}
 use lib.ListN.{length-set}
 use Rattle.lists.specs.Splice.{splice-three}
 use Rattle.spacetime.specs.Floats.{flat_vec}
-use borrow.Author.Rules.{rules}
 use Rattle.spacetime.proofs.floats.put_vec.Goals as goal
 
 pub bounds-l-at-2 : goal.bounds-l-at-2

@@ -12,7 +12,6 @@ use Rattle.geometry.specs.Pose.{origin_of}
 use Rattle.spacetime.specs.Floats.{flat_vec, vec-length}
 use Rattle.spacetime.specs.Walk.{list_pose}
 use Rattle.spacetime.specs.Frames.{position_at, positions_from}
-use borrow.Author.Rules.{rules}
 use Rattle.spacetime.proofs.frames.chain_positions.Goals as goal
 
 pub returns : goal.returns

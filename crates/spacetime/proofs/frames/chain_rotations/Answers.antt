@@ -13,7 +13,6 @@ use Rattle.geometry.specs.Pose.{origin_of}
 use Rattle.spacetime.specs.Floats.{flat_quat, quat-length}
 use Rattle.spacetime.specs.Walk.{list_pose}
 use Rattle.spacetime.specs.Frames.{rotation_at, rotations_from, rotation-length, rotation-list}
-use borrow.Author.Rules.{rules}
 use Rattle.spacetime.proofs.frames.chain_rotations.Goals as goal
 
 pub returns : goal.returns

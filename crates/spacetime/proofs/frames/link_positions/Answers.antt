@@ -1,5 +1,5 @@
 use mathlib.Core.Path.{◌≡◌, refl, ap, ◌∙◌}
-use Prim.Native.Nat.{ℕ, ◌+◌, ◌-◌, ◌*◌, ◌≤◌}
+use Prim.Native.Nat.{ℕ, ◌+◌, ◌*◌}
 use native.Mathlib.Omega.{arith}
 use lib.ListN.{length}
 use Rattle.lists.specs.Splice.{splice}
@@ -8,7 +8,6 @@ use Rattle.geometry.specs.declared.vector.Vec3.{Vec3}
 use Rattle.spacetime.specs.Floats.{flat_vec}
 use Rattle.spacetime.specs.Walk.{list_pose}
 use Rattle.spacetime.specs.Frames.{position_at, position-length, position-list}
-use borrow.Author.Rules.{rules}
 use Rattle.spacetime.proofs.frames.link_positions.Goals as goal
 
 pub loop-i-init : goal.loop-i-init

@@ -1,14 +1,11 @@
 -- `link_positions` meets its contract: turn after turn one link more.
-use mathlib.Core.Path.{◌≡◌, refl, ap, ◌∙◌}
-use Prim.Native.Nat.{ℕ, ◌+◌, ◌-◌, ◌*◌, ◌≤◌}
-use native.Mathlib.Omega.{arith}
+use mathlib.Core.Path.{◌≡◌}
+use Prim.Native.Nat.{◌-◌, ◌≤◌}
 use lib.ListN.{length}
 use Rattle.lists.specs.Splice.{splice}
-use Rattle.lists.specs.Runs.{runs, length_runs, splice-none, splice-more}
-use Rattle.geometry.specs.declared.vector.Vec3.{Vec3}
-use Rattle.spacetime.specs.Floats.{flat_vec}
+use Rattle.lists.specs.Runs.{runs}
 use Rattle.spacetime.specs.Walk.{list_pose}
-use Rattle.spacetime.specs.Frames.{position_at, position-length, position-list}
+use Rattle.spacetime.specs.Frames.{position_at}
 use Rattle.spacetime.proofs.frames.link_positions.Given as goal
 
 abbrev pub invariant-loop-i : goal.invariant-loop-i

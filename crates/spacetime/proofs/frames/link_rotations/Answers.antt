@@ -1,5 +1,5 @@
 use mathlib.Core.Path.{◌≡◌, refl, ap, ◌∙◌}
-use Prim.Native.Nat.{ℕ, ◌+◌, ◌-◌, ◌*◌, ◌≤◌}
+use Prim.Native.Nat.{ℕ, ◌+◌, ◌*◌}
 use native.Mathlib.Omega.{arith}
 use lib.ListN.{length}
 use Rattle.lists.specs.Splice.{splice}
@@ -8,7 +8,6 @@ use Rattle.geometry.specs.declared.quaternion.Quat.{Quat}
 use Rattle.spacetime.specs.Floats.{flat_quat}
 use Rattle.spacetime.specs.Walk.{list_pose}
 use Rattle.spacetime.specs.Frames.{rotation_at, rotation-length, rotation-list}
-use borrow.Author.Rules.{rules}
 use Rattle.spacetime.proofs.frames.link_rotations.Goals as goal
 
 pub loop-i-init : goal.loop-i-init

@@ -1,14 +1,11 @@
 -- `link_rotations` meets its contract: turn after turn one link more.
-use mathlib.Core.Path.{◌≡◌, refl, ap, ◌∙◌}
-use Prim.Native.Nat.{ℕ, ◌+◌, ◌-◌, ◌*◌, ◌≤◌}
-use native.Mathlib.Omega.{arith}
+use mathlib.Core.Path.{◌≡◌}
+use Prim.Native.Nat.{◌-◌, ◌≤◌}
 use lib.ListN.{length}
 use Rattle.lists.specs.Splice.{splice}
-use Rattle.lists.specs.Runs.{runs, length_runs, splice-none, splice-more}
-use Rattle.geometry.specs.declared.quaternion.Quat.{Quat}
-use Rattle.spacetime.specs.Floats.{flat_quat}
+use Rattle.lists.specs.Runs.{runs}
 use Rattle.spacetime.specs.Walk.{list_pose}
-use Rattle.spacetime.specs.Frames.{rotation_at, rotation-length, rotation-list}
+use Rattle.spacetime.specs.Frames.{rotation_at}
 use Rattle.spacetime.proofs.frames.link_rotations.Given as goal
 
 abbrev pub invariant-loop-i : goal.invariant-loop-i

@@ -1,6 +1,6 @@
 use mathlib.Core.Path.{◌≡◌, refl, sym, ap, ◌∙◌}
 use mathlib.Core.List.{List}
-use Prim.Native.Nat.{ℕ, ◌+◌, ◌-◌, ◌*◌, ◌≤◌}
+use Prim.Native.Nat.{ℕ, ◌+◌, ◌-◌, ◌*◌}
 use native.Mathlib.Omega.{arith}
 use lib.Ieee.{Float}
 use lib.ListN.{length, get_or}
@@ -12,7 +12,6 @@ use Rattle.spacetime.specs.Floats.{pose_at, flat}
 use Rattle.spacetime.specs.Walk.{list_pose}
 use Rattle.spacetime.specs.Tool.{tip_of}
 use Rattle.spacetime.specs.Frames.{chain_end, ends_of, end-length, chain-within}
-use borrow.Author.Rules.{rules}
 use Rattle.spacetime.proofs.frames.put_ends.Goals as goal
 
 -- what a turn writes is the chain's end pose

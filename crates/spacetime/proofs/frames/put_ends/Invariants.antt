@@ -1,18 +1,12 @@
 -- `put_ends` meets its contract: turn after turn one chain more.
-use mathlib.Core.Path.{◌≡◌, refl, sym, ap, ◌∙◌}
-use mathlib.Core.List.{List}
-use Prim.Native.Nat.{ℕ, ◌+◌, ◌-◌, ◌*◌, ◌≤◌}
-use native.Mathlib.Omega.{arith}
-use lib.Ieee.{Float}
-use lib.ListN.{length, get_or}
+use mathlib.Core.Path.{◌≡◌}
+use Prim.Native.Nat.{◌-◌, ◌≤◌}
+use lib.ListN.{length}
 use Rattle.lists.specs.Splice.{splice}
-use Rattle.lists.specs.Runs.{runs, length_runs, splice-none, splice-turn-at}
-use Rattle.geometry.specs.declared.pose.Pose.{Pose}
-use Rattle.sheet.specs.Chain.{chain_start, chain-start-next}
-use Rattle.spacetime.specs.Floats.{pose_at, flat}
+use Rattle.lists.specs.Runs.{runs}
+use Rattle.sheet.specs.Chain.{chain_start}
 use Rattle.spacetime.specs.Walk.{list_pose}
-use Rattle.spacetime.specs.Tool.{tip_of}
-use Rattle.spacetime.specs.Frames.{chain_end, ends_of, end-length, chain-within}
+use Rattle.spacetime.specs.Frames.{chain_end}
 use Rattle.spacetime.proofs.frames.put_ends.Given as goal
 
 abbrev pub invariant-loop-c : goal.invariant-loop-c

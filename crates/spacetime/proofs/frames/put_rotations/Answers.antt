@@ -1,6 +1,6 @@
 use mathlib.Core.Path.{◌≡◌, refl, sym, ap, ◌∙◌}
 use mathlib.Core.List.{List}
-use Prim.Native.Nat.{ℕ, ◌+◌, ◌-◌, ◌*◌, ◌≤◌}
+use Prim.Native.Nat.{ℕ, ◌+◌, ◌*◌}
 use native.Mathlib.Omega.{arith}
 use lib.Ieee.{Float}
 use lib.ListN.{length, get_or}
@@ -10,7 +10,6 @@ use Rattle.geometry.specs.declared.pose.Pose.{Pose}
 use Rattle.sheet.specs.Chain.{chain_start, chain-start-next, chain-start-mono, chain-start-total}
 use Rattle.spacetime.specs.Walk.{list_pose}
 use Rattle.spacetime.specs.Frames.{rotations_from, chain_rotations, rotations_of, rotations-length, chain-within}
-use borrow.Author.Rules.{rules}
 use Rattle.spacetime.proofs.frames.put_rotations.Goals as goal
 
 -- what a turn writes is the chain's piece

@@ -1,16 +1,12 @@
 -- `put_rotations` meets its contract: turn after turn one chain more.
-use mathlib.Core.Path.{◌≡◌, refl, sym, ap, ◌∙◌}
-use mathlib.Core.List.{List}
-use Prim.Native.Nat.{ℕ, ◌+◌, ◌-◌, ◌*◌, ◌≤◌}
-use native.Mathlib.Omega.{arith}
-use lib.Ieee.{Float}
-use lib.ListN.{length, get_or}
+use mathlib.Core.Path.{◌≡◌}
+use Prim.Native.Nat.{◌-◌, ◌≤◌}
+use lib.ListN.{length}
 use Rattle.lists.specs.Splice.{splice}
-use Rattle.lists.specs.Runs.{runs, splice-none, splice-turn-at}
-use Rattle.geometry.specs.declared.pose.Pose.{Pose}
-use Rattle.sheet.specs.Chain.{chain_start, chain-start-next, chain-start-mono, chain-start-total}
+use Rattle.lists.specs.Runs.{runs}
+use Rattle.sheet.specs.Chain.{chain_start}
 use Rattle.spacetime.specs.Walk.{list_pose}
-use Rattle.spacetime.specs.Frames.{rotations_from, chain_rotations, rotations_of, rotations-length, chain-within}
+use Rattle.spacetime.specs.Frames.{chain_rotations}
 use Rattle.spacetime.proofs.frames.put_rotations.Given as goal
 
 abbrev pub invariant-loop-c : goal.invariant-loop-c

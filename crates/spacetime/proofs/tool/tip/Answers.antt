@@ -1,13 +1,11 @@
 -- `tip` meets its contract: without a tool the pose as it is, else the link step of a fixed link.
 use mathlib.Core.Path.{sym, ap₂, ◌∙◌}
-use borrow.Author.Tests.{not-true, not-false}
 use Rattle.standins.specs.Num.{nought}
 use Rattle.geometry.specs.declared.vector.Vec3.{Vec3}
 use Rattle.geometry.specs.declared.quaternion.Quat.{Quat}
 use Rattle.sheet.specs.declared.code.Kind.TheVariants.{Fixed}
 use Rattle.spacetime.specs.Link.{joint_turn, link_of}
 use Rattle.spacetime.specs.Tool.{tip_of}
-use borrow.Author.Rules.{rules}
 use Rattle.spacetime.proofs.tool.tip.Goals as goal
 
 pub returns-then-not-has_tool : goal.returns-then-not-has_tool

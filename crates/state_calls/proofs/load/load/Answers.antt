@@ -8,7 +8,6 @@ use Rattle.state_calls.specs.declared.state.Arms.{Arms}
 use Rattle.state_calls.specs.declared.state.Party.{Party}
 use Rattle.state_calls.specs.declared.state.Outcome.{Outcome}
 use Rattle.state_calls.specs.Load.{arms_of, outcome_of, load_of}
-use borrow.Author.Rules.{rules}
 use Rattle.state_calls.proofs.load.load.Goals as goal
 
 pub returns-then-number-ne0 : goal.returns-then-number-ne0

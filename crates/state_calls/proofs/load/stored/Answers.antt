@@ -1,6 +1,5 @@
 -- `stored` meets its contract: by what its four copies ensure.
 use Rattle.state_calls.specs.Load.{arms_of}
-use borrow.Author.Rules.{rules}
 use Rattle.state_calls.proofs.load.stored.Goals as goal
 
 pub returns : goal.returns

@@ -15,7 +15,6 @@ use Rattle.calls.specs.OneBlock.{one_block_refusal}
 use Rattle.state_calls.specs.StoredSheet.{Used, parts_are}
 use Rattle.state_calls.specs.StoredTask.{given_stored, state-refused, state-passed, state-used, task-parts}
 use Rattle.state_calls.specs.OneBlock.{one_block_stored}
-use borrow.Author.Rules.{rules}
 use Rattle.state_calls.proofs.one_block_slopes.gradient_one_block_on.Goals as goal
 
 pub returns-then-number-ne0 : goal.returns-then-number-ne0

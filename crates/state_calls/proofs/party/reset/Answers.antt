@@ -16,7 +16,6 @@ use Rattle.state_calls.specs.State.{zeros, links_used}
 use Rattle.state_calls.specs.StoredSheet.{block_stored, pose-kept}
 use Rattle.state_calls.specs.Arms.{poses_of}
 use Rattle.state_calls.specs.Party.{with_start, reset_state_of, block-fits}
-use borrow.Author.Rules.{rules}
 use Rattle.state_calls.proofs.party.reset.Goals as goal
 
 pub returns-then-number-ne0 : goal.returns-then-number-ne0

@@ -4,7 +4,6 @@ use borrow.Author.Tests.{ne_eqb}
 use Rattle.state_calls.specs.Load.{outcome_of}
 use Rattle.state_calls.specs.StoredSheet.{update_stored}
 use Rattle.state_calls.specs.Party.{with_block, update_state_of, update-fits}
-use borrow.Author.Rules.{rules}
 use Rattle.state_calls.proofs.party.update.Goals as goal
 
 pub returns-then-number-ne0 : goal.returns-then-number-ne0

@@ -2,7 +2,6 @@
 use mathlib.Core.Path.{ap}
 use Rattle.state_calls.specs.declared.state.Party.{Party}
 use Rattle.state_calls.specs.State.{empty_arms, no_weights, empty_state}
-use borrow.Author.Rules.{rules}
 use Rattle.state_calls.proofs.state.empty.Goals as goal
 
 pub returns : goal.returns

@@ -8,7 +8,6 @@ use lib.Seq.{length-take-le}
 use Rattle.sheet.specs.Chain.{total}
 use Rattle.refusals.specs.Refusal.{shape_refusal}
 use Rattle.state_calls.specs.State.{sizes_used, links_used, codes_used, have_sheet, counts_of}
-use borrow.Author.Rules.{rules}
 use Rattle.state_calls.proofs.state.in_use.Goals as goal
 
 pub returns-then-chains-gt4 : goal.returns-then-chains-gt4

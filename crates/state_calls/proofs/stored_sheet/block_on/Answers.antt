@@ -7,7 +7,6 @@ use lib.ListN.{length, take}
 use lib.Seq.{length-take-le}
 use Rattle.refusals.specs.Refusal.{block_refusal}
 use Rattle.state_calls.specs.StoredSheet.{block_stored, arms-there, no-arms, used, unused, codes-part}
-use borrow.Author.Rules.{rules}
 use Rattle.state_calls.proofs.stored_sheet.block_on.Goals as goal
 
 pub returns-then-not-n : goal.returns-then-not-n

@@ -10,7 +10,6 @@ use Rattle.spacetime.specs.Frames.{positions_of, rotations_of}
 use Rattle.calls.specs.Arms.{if_taken, refused}
 use Rattle.calls.specs.Frames.{frames_refusal}
 use Rattle.state_calls.specs.StoredSheet.{frames_stored, stored_pose, arms-there, no-arms, Used, used, unused, parts_are, accepted-parts}
-use borrow.Author.Rules.{rules}
 use Rattle.state_calls.proofs.stored_sheet.frames_on.Goals as goal
 
 pub returns-then-not-n : goal.returns-then-not-n

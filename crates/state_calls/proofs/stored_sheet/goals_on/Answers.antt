@@ -3,7 +3,6 @@ use mathlib.Core.Path.{sym, ap, ◌∙◌}
 use Prim.Native.Nat.{ℕ}
 use Rattle.refusals.specs.Refusal.{goals_refusal}
 use Rattle.state_calls.specs.StoredSheet.{goals_stored, arms-there, no-arms, used, unused}
-use borrow.Author.Rules.{rules}
 use Rattle.state_calls.proofs.stored_sheet.goals_on.Goals as goal
 
 pub returns-then-not-n : goal.returns-then-not-n

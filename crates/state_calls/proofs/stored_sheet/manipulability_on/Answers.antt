@@ -3,13 +3,11 @@ use mathlib.Core.Path.{sym, ◌∙◌}
 use Prim.Native.Nat.{◌*◌}
 use native.Mathlib.Omega.{arith}
 use lib.Seq.{length-take-le}
-use Rattle.sheet.specs.Chain.{joints}
 use Rattle.spacetime.specs.Walk.{pose_of}
 use Rattle.manipulability.specs.Jacobian.{manipulability_of}
 use Rattle.refusals.specs.Refusal.{block_refusal}
 use Rattle.calls.specs.Answer.{number_of, value_if, value-refused, answer-refused}
 use Rattle.state_calls.specs.StoredSheet.{block_stored, stored_pose, manipulability_stored, arms-there, no-arms, Used, used, unused, parts_are, accepted-parts}
-use borrow.Author.Rules.{rules}
 use Rattle.state_calls.proofs.stored_sheet.manipulability_on.Goals as goal
 
 pub returns-then-not-n : goal.returns-then-not-n

@@ -10,7 +10,6 @@ use Rattle.spacetime.specs.Frames.{ends_of}
 use Rattle.calls.specs.Arms.{if_taken, refused}
 use Rattle.calls.specs.Frames.{pose_refusal}
 use Rattle.state_calls.specs.StoredSheet.{pose_stored, stored_pose, arms-there, no-arms, Used, used, unused, parts_are, accepted-parts}
-use borrow.Author.Rules.{rules}
 use Rattle.state_calls.proofs.stored_sheet.pose_on.Goals as goal
 
 pub returns-then-not-n : goal.returns-then-not-n

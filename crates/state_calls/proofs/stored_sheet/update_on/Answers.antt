@@ -1,8 +1,6 @@
 -- `update_on` meets its contract: each return follows the tests before it.
 use mathlib.Core.Path.{sym}
-use borrow.Author.Tests.{not-true, not-false}
 use Rattle.state_calls.specs.StoredSheet.{block_stored, update_stored, arms-there, no-arms, used, unused}
-use borrow.Author.Rules.{rules}
 use Rattle.state_calls.proofs.stored_sheet.update_on.Goals as goal
 
 pub returns-then-not-n : goal.returns-then-not-n

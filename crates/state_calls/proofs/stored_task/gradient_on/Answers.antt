@@ -13,7 +13,6 @@ use Rattle.calls.specs.Answer.{number_of, value_if, value-refused, answer-refuse
 use Rattle.calls.specs.AcceptedTask.{slopes_refusal}
 use Rattle.state_calls.specs.StoredSheet.{Used, parts_are}
 use Rattle.state_calls.specs.StoredTask.{slopes_stored, given_stored, state-refused, state-passed, state-used, task-parts}
-use borrow.Author.Rules.{rules}
 use Rattle.state_calls.proofs.stored_task.gradient_on.Goals as goal
 
 pub returns-then-number-ne0 : goal.returns-then-number-ne0

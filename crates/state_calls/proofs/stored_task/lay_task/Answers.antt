@@ -3,7 +3,6 @@ use mathlib.Core.Path.{ap, ◌∙◌}
 use mathlib.Core.List.{List}
 use lib.Ieee.{Float}
 use Rattle.task.specs.Laid.{apart, laid}
-use borrow.Author.Rules.{rules}
 use Rattle.state_calls.proofs.stored_task.lay_task.Goals as goal
 
 pub returns : goal.returns

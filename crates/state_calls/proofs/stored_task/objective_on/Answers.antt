@@ -4,14 +4,12 @@ use Prim.Native.Nat.{◌*◌}
 use native.Mathlib.Omega.{arith}
 use lib.Ieee.{nan}
 use lib.Seq.{length-take-le}
-use Rattle.sheet.specs.Chain.{joints}
 use Rattle.refusals.specs.Refusal.{block_refusal}
 use Rattle.task.specs.Task.{given_of}
 use Rattle.gradient.specs.Gradient.{value_at}
 use Rattle.calls.specs.Answer.{number_of, value_if, value-refused, answer-refused}
 use Rattle.state_calls.specs.StoredSheet.{Used, parts_are}
 use Rattle.state_calls.specs.StoredTask.{objective_stored, given_stored, state-refused, state-passed, state-used, task-parts}
-use borrow.Author.Rules.{rules}
 use Rattle.state_calls.proofs.stored_task.objective_on.Goals as goal
 
 pub returns-then-number-ne0 : goal.returns-then-number-ne0

@@ -1,8 +1,6 @@
 -- `state_refusal` meets its contract: each return follows the tests before it.
 use mathlib.Core.Path.{refl}
-use borrow.Author.Tests.{not-true, not-false}
 use Rattle.state_calls.specs.StoredTask.{state_number}
-use borrow.Author.Rules.{rules}
 use Rattle.state_calls.proofs.stored_task.state_refusal.Goals as goal
 
 pub returns-then-not-loaded : goal.returns-then-not-loaded

@@ -7,7 +7,6 @@ use lib.Ieee.{Float}
 use lib.ListN.{length, set, length-set}
 use Rattle.lists.specs.Splice.{splice, splice-one, splice-splice}
 use Rattle.standins.specs.Num.{one}
-use borrow.Author.Rules.{rules}
 use Rattle.state_calls.proofs.tool.put_tool.Goals as goal
 
 pub put-requires : goal.put-requires

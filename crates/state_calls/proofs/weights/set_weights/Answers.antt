@@ -8,7 +8,6 @@ use Rattle.refusals.specs.Refusal.{weights_refusal}
 use Rattle.refusals.specs.Passed.{weights-passed}
 use Rattle.state_calls.specs.Load.{outcome_of}
 use Rattle.state_calls.specs.Weights.{with_weights, set_weights_of, list-filled}
-use borrow.Author.Rules.{rules}
 use Rattle.state_calls.proofs.weights.set_weights.Goals as goal
 
 pub returns-then-number-ne0 : goal.returns-then-number-ne0

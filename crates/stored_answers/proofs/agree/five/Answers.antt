@@ -1,9 +1,7 @@
 -- `five` meets its contract: the first three outputs are looked at before the fourth, and that before the fifth.
 use mathlib.Core.Path.{sym, ap, ◌∙◌}
 use mathlib.Core.List.{[], ◌∷◌}
-use borrow.Author.Tests.{not-true, not-false}
 use Rattle.stored_answers.specs.Agree.{same_bytes, agrees-not, agrees-next}
-use borrow.Author.Rules.{rules}
 use Rattle.stored_answers.proofs.agree.five.Goals as goal
 
 pub returns-then-not-three : goal.returns-then-not-three

@@ -2,7 +2,6 @@
 use Rattle.stored_answers.specs.Agree.{agrees-none}
 use mathlib.Core.Path.{sym, ap, ◌∙◌}
 use lib.Dec.{eqb}
-use borrow.Author.Rules.{rules}
 use Rattle.stored_answers.proofs.agree.none.Goals as goal
 
 pub returns : goal.returns

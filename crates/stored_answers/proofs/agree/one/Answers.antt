@@ -1,11 +1,9 @@
 -- `one` meets its contract: the number is looked at first, then the output.
 use mathlib.Core.Path.{◌≡◌, sym, ap, ◌∙◌}
 use mathlib.Core.List.{[]}
-use borrow.Author.Tests.{not-true, not-false}
 use Rattle.stored_answers.specs.Agree.{same_bytes, agrees-none, agrees-not, agrees-next}
 use Prim.Native.Nat.{◌+◌}
 use native.Mathlib.Omega.{arith}
-use borrow.Author.Rules.{rules}
 use Rattle.stored_answers.proofs.agree.one.Goals as goal
 
 pub returns-then-not-none : goal.returns-then-not-none

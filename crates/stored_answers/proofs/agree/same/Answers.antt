@@ -1,12 +1,11 @@
 use mathlib.Core.List.{List}
 use mathlib.Core.Path.{◌≡◌, sym, ap}
-use Prim.Native.Nat.{ℕ, ◌≤◌, ◌<◌, ◌-◌}
+use Prim.Native.Nat.{ℕ}
 use native.Mathlib.Omega.{arith}
 use borrow.Author.Count.{below_none, below_more}
 use lib.ListN.{length, get_or}
 use lib.Seq.{ext_get_or}
 use Rattle.stored_answers.specs.Agree.{same_refl, same_false}
-use borrow.Author.Rules.{rules}
 use Rattle.stored_answers.proofs.agree.same.Goals as goal
 
 pub returns-then-a-b : goal.returns-then-a-b

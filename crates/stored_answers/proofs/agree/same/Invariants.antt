@@ -1,12 +1,7 @@
 -- `same` meets its contract: it goes on while the bytes passed are the same.
-use mathlib.Core.List.{List}
-use mathlib.Core.Path.{◌≡◌, sym, ap}
+use mathlib.Core.Path.{◌≡◌}
 use Prim.Native.Nat.{ℕ, ◌≤◌, ◌<◌, ◌-◌}
-use native.Mathlib.Omega.{arith}
-use borrow.Author.Count.{below_none, below_more}
 use lib.ListN.{length, get_or}
-use lib.Seq.{ext_get_or}
-use Rattle.stored_answers.specs.Agree.{same_refl, same_false}
 use Rattle.stored_answers.proofs.agree.same.Given as goal
 
 abbrev pub invariant-loop-i : goal.invariant-loop-i

@@ -1,9 +1,7 @@
 -- `three` meets its contract: the first two outputs are looked at before the third.
 use mathlib.Core.Path.{sym, ap, ◌∙◌}
 use mathlib.Core.List.{[], ◌∷◌}
-use borrow.Author.Tests.{not-true, not-false}
 use Rattle.stored_answers.specs.Agree.{same_bytes, agrees-not, agrees-next}
-use borrow.Author.Rules.{rules}
 use Rattle.stored_answers.proofs.agree.three.Goals as goal
 
 pub returns-then-not-two : goal.returns-then-not-two

@@ -1,9 +1,7 @@
 -- `two` meets its contract: the first output is looked at before the second.
 use mathlib.Core.Path.{sym, ap, ◌∙◌}
 use mathlib.Core.List.{[], ◌∷◌}
-use borrow.Author.Tests.{not-true, not-false}
 use Rattle.stored_answers.specs.Agree.{same_bytes, agrees-not, agrees-next}
-use borrow.Author.Rules.{rules}
 use Rattle.stored_answers.proofs.agree.two.Goals as goal
 
 pub returns-then-not-one : goal.returns-then-not-one

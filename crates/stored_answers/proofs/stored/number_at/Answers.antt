@@ -2,7 +2,6 @@
 use native.Mathlib.Omega.{arith}
 use borrow.Author.Tests.{lt-ltb, le-ltb}
 use Rattle.stored_answers.specs.Stored.{number_at}
-use borrow.Author.Rules.{rules}
 use Rattle.stored_answers.proofs.stored.number_at.Goals as goal
 
 pub returns-then-s-at : goal.returns-then-s-at

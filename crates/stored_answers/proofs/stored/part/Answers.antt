@@ -6,7 +6,6 @@ use borrow.Author.Tests.{lt-ltb, le-ltb}
 use lib.ListN.{drop, length-drop}
 use lib.Seq.{length-take-le}
 use Rattle.stored_answers.specs.Stored.{part_of}
-use borrow.Author.Rules.{rules}
 use Rattle.stored_answers.proofs.stored.part.Goals as goal
 
 pub returns-then-s-to : goal.returns-then-s-to

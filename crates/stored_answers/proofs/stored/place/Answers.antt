@@ -1,9 +1,7 @@
 use mathlib.Core.Path.{◌≡◌, refl}
-use Prim.Native.Nat.{◌+◌, ◌*◌, ◌-◌, ◌≤◌}
 use native.Mathlib.Omega.{arith}
 use native.Mathlib.Numerals.{add-one}
 use Rattle.stored_answers.specs.Stored.{place_of}
-use borrow.Author.Rules.{rules}
 use Rattle.stored_answers.proofs.stored.place.Goals as goal
 
 pub loop-i-init : goal.loop-i-init

@@ -1,8 +1,6 @@
 -- `place` meets its contract: each turn passes one list.
-use mathlib.Core.Path.{◌≡◌, refl}
+use mathlib.Core.Path.{◌≡◌}
 use Prim.Native.Nat.{◌+◌, ◌*◌, ◌-◌, ◌≤◌}
-use native.Mathlib.Omega.{arith}
-use native.Mathlib.Numerals.{add-one}
 use Rattle.stored_answers.specs.Stored.{place_of}
 use Rattle.stored_answers.proofs.stored.place.Given as goal
 

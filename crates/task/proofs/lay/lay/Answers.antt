@@ -1,6 +1,5 @@
 -- `lay` meets its contract: the writings, one after the other.
 use Rattle.task.specs.Laid.{laid}
-use borrow.Author.Rules.{rules}
 use Rattle.task.proofs.lay.lay.Goals as goal
 
 pub returns : goal.returns

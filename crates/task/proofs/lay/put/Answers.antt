@@ -6,7 +6,6 @@ use native.Mathlib.Omega.{arith}
 use lib.Ieee.{Float}
 use lib.ListN.{length, take, drop}
 use Rattle.task.specs.Laid.{put-splice}
-use borrow.Author.Rules.{rules}
 use Rattle.task.proofs.lay.put.Goals as goal
 
 pub returns : goal.returns

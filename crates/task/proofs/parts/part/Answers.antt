@@ -3,7 +3,6 @@ use mathlib.Core.Path.{ap, ◌∙◌}
 use native.Mathlib.Omega.{arith}
 use lib.ListN.{length}
 use Rattle.task.specs.Task.{part_length, part-range}
-use borrow.Author.Rules.{rules}
 use Rattle.task.proofs.parts.part.Goals as goal
 
 pub returns : goal.returns

@@ -1,6 +1,5 @@
 -- `acos` meets its contract: each return follows the test of the sign.
 use Rattle.utils_rust.specs.Acos.{acos_of}
-use borrow.Author.Rules.{rules}
 use Rattle.utils_rust.proofs.acos.acos.Goals as goal
 
 pub returns-then-w : goal.returns-then-w

@@ -1,6 +1,5 @@
 -- `acute` meets its contract: each return follows the test of the root.
 use Rattle.utils_rust.specs.Acos.{opposite_of, acute_of}
-use borrow.Author.Rules.{rules}
 use Rattle.utils_rust.proofs.acos.acute.Goals as goal
 
 pub returns-then-root : goal.returns-then-root

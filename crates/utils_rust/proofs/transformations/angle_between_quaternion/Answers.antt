@@ -1,6 +1,5 @@
 -- `angle_between_quaternion` meets its contract: by what its two calls ensure.
 use Rattle.utils_rust.specs.Transformations.{angle_between_quaternion}
-use borrow.Author.Rules.{rules}
 use Rattle.utils_rust.proofs.transformations.angle_between_quaternion.Goals as goal
 
 pub returns : goal.returns

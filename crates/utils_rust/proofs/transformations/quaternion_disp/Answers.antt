@@ -1,6 +1,5 @@
 -- `quaternion_disp` meets its contract: by what its three calls ensure.
 use Rattle.utils_rust.specs.Transformations.{quaternion_disp}
-use borrow.Author.Rules.{rules}
 use Rattle.utils_rust.proofs.transformations.quaternion_disp.Goals as goal
 
 pub returns : goal.returns

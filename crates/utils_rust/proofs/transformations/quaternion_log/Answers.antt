@@ -1,7 +1,6 @@
 -- `quaternion_log` meets its contract: each return follows the tests of w and of the sine.
 use Rattle.geometry.specs.Quaternion.{axis_of}
 use Rattle.utils_rust.specs.Transformations.{quaternion_log}
-use borrow.Author.Rules.{rules}
 use Rattle.utils_rust.proofs.transformations.quaternion_log.Goals as goal
 
 pub returns-then-abs-2 : goal.returns-then-abs-2

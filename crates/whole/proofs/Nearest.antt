@@ -1,5 +1,5 @@
 -- `whole_of` is what `IsNearestWhole` says, and no other value is.
-use Rattle.std.specs.Prelude.{◌≡◌, refl, ℕ, zero, suc, ◌+◌, ◌-◌, ◌*◌, ◌%◌, ◌^◌, ◌≤◌, ◌<◌, Bool, ◌&&◌, ℤ, pos, negsuc, T, ltb, Float}
+use Rattle.std.specs.Prelude.{◌⊎◌, ◌≡◌, refl, ℕ, zero, suc, ◌+◌, ◌-◌, ◌*◌, ◌%◌, ◌^◌, ◌≤◌, ◌<◌, Bool, ◌&&◌, ℤ, pos, negsuc, T, ltb, Float}
 use Rattle.std.proofs.Common.{sym, ap, ◌∙◌, subst, inl, inr, le_antisymm, add-mul, suc-mul, le_trans, le_of_eq, lt_of_lt_of_le, lt_of_le_of_lt, zero-lt-suc, mul-one, mul_assoc, mul-le-mul_left, mul-le-mul_right, mul-lt-mul_of_pos_right, arith, lit≤, pow-add, pow_pos, pow_mono}
 use Rattle.std.specs.Float.{nan, inf, fin, binary64}
 use Rattle.std.specs.Float.Ieee.{up, down, round, of_int, fits}
@@ -8,8 +8,38 @@ use Rattle.std.specs.Float.Ieee.Exact.{HasValue, round_exact}
 use Rattle.std.specs.Float.Ieee.Back.{round_whole, whole_unique}
 use Rattle.std.specs.Float.Ieee.Nearest.{closest, closest_same}
 use Rattle.whole.specs.Whole.{apart, NearestTo, Whole, IsNearestWhole, signed, whole_of, signed_is}
-use Rattle.whole.specs.Halves.{sorted, closest-halves, closest-one, closest-le, nearest-to}
+use Rattle.whole.specs.Halves.{Halves, sorted, closest-halves, closest-one, closest-le}
 use Rattle.whole.specs.Fits.{fits-says}
+
+-- ---- no whole number is nearer
+-- the next whole number is d further on
+gap : (i j d : ℕ) → i < j → i * d + d ≤ j * d
+gap i j d h = subst (λ (x : ℕ). x ≤ j * d) (suc-mul i d) (mul-le-mul_right d h)
+
+pub nearest-to : (n d k : ℕ) → 0 < d → Halves n d k → NearestTo n d k
+nearest-to n d k D h = record { least = λ j. least j (sorted j k); even = λ j. even j (sorted j k) }
+  where
+    least : (j : ℕ) → (j ≡ k) ⊎ ((j < k) ⊎ (k < j)) → apart n (k * d) ≤ apart n (j * d)
+    least j (inl e) = le_of_eq (ap (λ (i : ℕ). apart n (i * d)) (sym e))
+    least j (inr (inl l)) = below n (k * d) (j * d) d h.over (gap j k d l)
+      where
+        below : (n K J d : ℕ) → 2 * K ≤ 2 * n + d → J + d ≤ K → n - K + (K - n) ≤ n - J + (J - n)
+        below n K J d a b = omega arith
+    least j (inr (inr l)) = above n (k * d) (j * d) d h.under (gap k j d l)
+      where
+        above : (n K J d : ℕ) → 2 * n ≤ 2 * K + d → K + d ≤ J → n - K + (K - n) ≤ n - J + (J - n)
+        above n K J d a b = omega arith
+
+    even : (j : ℕ) → (j ≡ k) ⊎ ((j < k) ⊎ (k < j)) → (j ≡ k → ⊥) → apart n (k * d) ≡ apart n (j * d) → k % 2 ≡ 0
+    even j (inl e) f t = absurd (f e)
+    even j (inr (inl l)) f t = h.even-over (below n (k * d) (j * d) d D h.over (gap j k d l) t)
+      where
+        below : (n K J d : ℕ) → 0 < d → 2 * K ≤ 2 * n + d → J + d ≤ K → n - K + (K - n) ≡ n - J + (J - n) → 2 * K ≡ 2 * n + d
+        below n K J d D a b t = omega arith
+    even j (inr (inr l)) f t = h.even-under (above n (k * d) (j * d) d D h.under (gap k j d l) t)
+      where
+        above : (n K J d : ℕ) → 0 < d → 2 * n ≤ 2 * K + d → K + d ≤ J → n - K + (K - n) ≡ n - J + (J - n) → 2 * n ≡ 2 * K + d
+        above n K J d D a b t = omega arith
 
 -- ---- the whole number nearest to a value is held
 pub closest-zero : (e : ℤ) → closest (0 * up e) (down e) ≡ 0

@@ -1,0 +1,2 @@
+pub mod Urdf
+pub mod SamePoint
