@@ -11,10 +11,9 @@ use Rattle.refusals.specs.Lowest.{lowest, lowest_from, first-none}
 use Rattle.refusals.specs.Refusal.{chains_of, links_of, bad_sizes, shape_refusal, load_refusal}
 use Rattle.refusals.specs.Range.{between}
 use Rattle.refusals.specs.Passed.{Shape, load-first, load-passed}
-use Rattle.calls.specs.Tools.{NoTool, zeros-none}
+use Rattle.calls.specs.Tools.{NoTool}
 use Rattle.state_calls.specs.declared.state.State.{State}
 use Rattle.state_calls.specs.State.{zeros, sizes_used, links_used, codes_used, floats_used, limits_used, have_sheet, empty_arms, empty_party, empty_state}
-use Rattle.state_calls.specs.Load.{arms_of, load_of, outcome_of}
 use Rattle.state_calls.specs.StoredSheet.{drop-take}
 
 -- at the start there are no arms
@@ -77,20 +76,3 @@ pub record Loaded (sizes codes : List ℕ) (floats limits : List Float) (s : Sta
   pub no_start : s.party.started ≡ false
   pub empty : s.party ≡ empty_party
   pub no-tool : NoTool s.arms.tools
-
-pub loaded : (s : State) (sizes codes : List ℕ) (floats limits : List Float) → load_refusal sizes codes floats limits ≡ 0
-    → Loaded sizes codes floats limits (load_of s sizes codes floats limits).state
-unfolding load_of outcome_of arms_of empty_party
-loaded s sizes codes floats limits e =
-    rw e (record {
-      have = sheet-kept sizes codes floats limits e;
-      chains = chains-kept sizes codes floats limits e;
-      links = links-kept sizes codes floats limits e;
-      same_codes = codes-kept sizes codes floats limits e;
-      same-floats = floats-kept sizes codes floats limits e;
-      same-limits = limits-kept sizes codes floats limits e;
-      no-goals = refl;
-      no_start = refl;
-      empty = refl;
-      no-tool = zeros-none 32;
-    })

@@ -20,7 +20,6 @@ use Rattle.state_calls.specs.declared.state.Arms.{Arms}
 use Rattle.state_calls.specs.declared.state.State.{State}
 use Rattle.state_calls.specs.State.{links_used, codes_used, have_sheet}
 use Rattle.state_calls.specs.Load.{load_of, outcome_of, outcome-keeps}
-use Rattle.state_calls.specs.Loaded.{Loaded, loaded}
 use Rattle.state_calls.specs.Party.{set_goals_of, reset_state_of, update_state_of}
 use Rattle.state_calls.specs.StoredSheet.{if_arms, frames_stored}
 use Rattle.state_calls.specs.StoredTask.{state_number, after_state}
@@ -33,14 +32,7 @@ pub record Holds (sizes codes : List ℕ) (arms : Arms) : Type 0 where
   pub links : links_used arms.sizes ≡ links_of sizes
   pub same_codes : codes_used arms.sizes arms.codes ≡ codes
 
--- ---- a sheet that is loaded stays until another is
-pub holds-loaded : (s : State) (sizes codes : List ℕ) (floats limits : List Float) → (load_of s sizes codes floats limits).number ≡ 0
-    → Holds sizes codes (load_of s sizes codes floats limits).state.arms
-unfolding load_of outcome_of
-holds-loaded s sizes codes floats limits e =
-    let l : Loaded sizes codes floats limits (load_of s sizes codes floats limits).state = loaded s sizes codes floats limits e in
-    record { have = l.have; links = l.links; same_codes = l.same_codes }
-
+-- ---- a sheet that is loaded stays until another is (that it is there at first: `holds-loaded`, proofs/Loaded.antt)
 module _ (s : State) (x : List Float) where
   pub set-goals-keeps-arms : (set_goals_of s x).state.arms ≡ s.arms
   unfolding set_goals_of

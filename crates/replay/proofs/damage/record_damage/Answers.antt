@@ -2,7 +2,6 @@
 use borrow.Author.Tests.{lt-ltb, le-ltb}
 use Rattle.stored_answers.specs.Records.{damage_at}
 use Rattle.replay_calls.specs.Table.{last_call}
-use borrow.Author.Rules.{rules}
 use Rattle.replay.proofs.damage.record_damage.Goals as goal
 
 pub returns-then-s-at : goal.returns-then-s-at

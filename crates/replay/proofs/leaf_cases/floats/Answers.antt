@@ -7,7 +7,6 @@ use native.Mathlib.Omega.{arith}
 use lib.ListN.{length}
 use Rattle.lent_bytes.specs.Lent.{bytes_of, bytes-length, front, front_of}
 use Rattle.replay_calls.specs.Table.{answered_list}
-use borrow.Author.Rules.{rules}
 use Rattle.replay.proofs.leaf_cases.floats.Goals as goal
 
 pub slice_bounds-one-end : goal.slice_bounds-one-end

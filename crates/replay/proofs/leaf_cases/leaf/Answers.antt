@@ -7,7 +7,6 @@ use Rattle.lent_bytes.specs.SheetLists.{same-two}
 use Rattle.stored_answers.specs.Agree.{same_answer}
 use Rattle.spacetime.specs.Floats.{flat_vec, flat_quat}
 use Rattle.replay.specs.Leaves.{leaf_of, leaf_agrees, leaf-standin, leaf-loss, leaf-measure, leaf-quat, leaf-vec, leaf-gram}
-use borrow.Author.Rules.{rules}
 use Rattle.replay.proofs.leaf_cases.leaf.Goals as goal
 
 pub returns-then-call-lt22 : goal.returns-then-call-lt22

@@ -1,6 +1,5 @@
 -- `quat` meets its contract: its components in a row.
 use Rattle.spacetime.specs.Floats.{flat_quat}
-use borrow.Author.Rules.{rules}
 use Rattle.replay.proofs.leaf_cases.quat.Goals as goal
 
 pub returns : goal.returns

@@ -1,6 +1,5 @@
 -- `vec` meets its contract: its components in a row.
 use Rattle.spacetime.specs.Floats.{flat_vec}
-use borrow.Author.Rules.{rules}
 use Rattle.replay.proofs.leaf_cases.vec.Goals as goal
 
 pub returns : goal.returns

@@ -1,7 +1,6 @@
 -- `determinant` meets its contract: by what its calls ensure.
 use mathlib.Core.Path.{ap, ◌∙◌}
 use Rattle.geometry.specs.Matrix.{determinant_of}
-use borrow.Author.Rules.{rules}
 use Rattle.replay.proofs.leaves.determinant.Goals as goal
 
 pub returns : goal.returns

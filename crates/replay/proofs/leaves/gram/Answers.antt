@@ -1,7 +1,6 @@
 -- `gram` meets its contract: by what its calls ensure of the decoded list.
 use mathlib.Core.Path.{ap, ◌∙◌}
 use Rattle.geometry.specs.Matrix.{gram_of}
-use borrow.Author.Rules.{rules}
 use Rattle.replay.proofs.leaves.gram.Goals as goal
 
 pub returns : goal.returns

@@ -2,7 +2,6 @@
 use native.Mathlib.Omega.{arith}
 use borrow.Author.Tests.{ne_eqb}
 use Rattle.replay.specs.Leaves.{quat_of}
-use borrow.Author.Rules.{rules}
 use Rattle.replay.proofs.leaves.quat.Goals as goal
 
 pub returns-in-32 : goal.returns-in-32

@@ -2,7 +2,6 @@
 use native.Mathlib.Omega.{arith}
 use borrow.Author.Tests.{ne_eqb}
 use Rattle.replay.specs.Leaves.{standin_of}
-use borrow.Author.Rules.{rules}
 use Rattle.replay.proofs.leaves.standin.Goals as goal
 
 pub returns-in-11 : goal.returns-in-11

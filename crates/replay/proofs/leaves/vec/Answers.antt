@@ -2,7 +2,6 @@
 use native.Mathlib.Omega.{arith}
 use borrow.Author.Tests.{ne_eqb}
 use Rattle.replay.specs.Leaves.{vec_of}
-use borrow.Author.Rules.{rules}
 use Rattle.replay.proofs.leaves.vec.Goals as goal
 
 pub returns-in-37 : goal.returns-in-37

@@ -1,11 +1,10 @@
 use mathlib.Core.Path.{◌≡◌, refl, sym, ap, ◌∙◌}
-use Prim.Native.Nat.{◌+◌, ◌*◌, ◌-◌, ◌≤◌}
+use Prim.Native.Nat.{◌+◌}
 use native.Mathlib.Omega.{arith}
 use Rattle.lent_bytes.specs.SheetLists.{same-two}
 use Rattle.stored_answers.specs.Records.{sum_of, sum_more}
 use Rattle.replay_calls.specs.Table.{calls}
 use Rattle.replay.specs.Tally.{cases_of, differ_of}
-use borrow.Author.Rules.{rules}
 use Rattle.replay.proofs.report.each_call.Goals as goal
 
 pub loop-call-init : goal.loop-call-init

@@ -1,9 +1,7 @@
 -- `each_call` meets its contract: each turn adds one call's counts.
-use mathlib.Core.Path.{◌≡◌, refl, sym, ap, ◌∙◌}
-use Prim.Native.Nat.{◌+◌, ◌*◌, ◌-◌, ◌≤◌}
-use native.Mathlib.Omega.{arith}
-use Rattle.lent_bytes.specs.SheetLists.{same-two}
-use Rattle.stored_answers.specs.Records.{sum_of, sum_more}
+use mathlib.Core.Path.{◌≡◌}
+use Prim.Native.Nat.{◌*◌, ◌-◌, ◌≤◌}
+use Rattle.stored_answers.specs.Records.{sum_of}
 use Rattle.replay_calls.specs.Table.{calls}
 use Rattle.replay.specs.Tally.{cases_of, differ_of}
 use Rattle.replay.proofs.report.each_call.Given as goal

@@ -12,7 +12,6 @@ use Rattle.lent_bytes.specs.Lent.{bytes_of}
 use Rattle.lent_bytes.specs.SheetLists.{same-two}
 use Rattle.stored_answers.specs.Agree.{same_answer}
 use Rattle.replay.specs.StrictLeaves.{strict_leaf_of, strict_leaf_agrees}
-use borrow.Author.Rules.{rules}
 use Rattle.replay.proofs.strict_leaves.leaf.Goals as goal
 
 pub returns-in-44 : goal.returns-in-44

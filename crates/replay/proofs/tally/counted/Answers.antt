@@ -4,7 +4,6 @@ use mathlib.Core.Path.{◌≡◌, sym, ◌∙◌}
 use native.Mathlib.Omega.{arith}
 use Rattle.stored_answers.specs.Records.{case-none, case-one, different-none, different-agrees, different-one}
 use Rattle.replay.specs.Cases.{record_agrees}
-use borrow.Author.Rules.{rules}
 use Rattle.replay.proofs.tally.counted.Goals as goal
 
 pub returns-then-number_at-call : goal.returns-then-number_at-call

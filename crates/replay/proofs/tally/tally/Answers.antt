@@ -1,12 +1,11 @@
 use mathlib.Core.Path.{◌≡◌, refl, sym, ap, ◌∙◌}
-use Prim.Native.Nat.{◌+◌, ◌*◌, ◌-◌, ◌≤◌}
+use Prim.Native.Nat.{◌+◌}
 use native.Mathlib.Omega.{arith}
 use Rattle.lent_bytes.specs.SheetLists.{same-two}
 use Rattle.stored_answers.specs.Records.{record_by, is_case, is_different, sum_of, cases_by, differ_by, record-next, sum_more}
 use Rattle.replay_calls.specs.Table.{lists_of}
 use Rattle.replay.specs.Cases.{record_agrees}
 use Rattle.replay.specs.Tally.{end_of, record_at, agrees_at}
-use borrow.Author.Rules.{rules}
 use Rattle.replay.proofs.tally.tally.Goals as goal
 
 pub loop-i-init : goal.loop-i-init

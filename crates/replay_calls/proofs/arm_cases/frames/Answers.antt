@@ -11,7 +11,6 @@ use Rattle.stored_answers.specs.Stored.{list_of}
 use Rattle.stored_answers.specs.Agree.{filled-length, left-written, same_answer}
 use Rattle.replay_calls.specs.Table.{arm_outputs}
 use Rattle.replay_calls.specs.Arms.{frames_agree}
-use borrow.Author.Rules.{rules}
 use Rattle.replay_calls.proofs.arm_cases.frames.Goals as goal
 
 pub list-requires : goal.list-requires

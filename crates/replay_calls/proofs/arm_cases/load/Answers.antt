@@ -1,6 +1,5 @@
 -- `load` meets its contract: by what its calls ensure.
 use Rattle.replay_calls.specs.Arms.{load_agrees}
-use borrow.Author.Rules.{rules}
 use Rattle.replay_calls.proofs.arm_cases.load.Goals as goal
 
 pub returns : goal.returns

@@ -11,7 +11,6 @@ use Rattle.stored_answers.specs.Stored.{list_of}
 use Rattle.stored_answers.specs.Agree.{filled-length, left-written, same_answer}
 use Rattle.replay_calls.specs.Table.{pose_outputs}
 use Rattle.replay_calls.specs.Arms.{pose_agrees}
-use borrow.Author.Rules.{rules}
 use Rattle.replay_calls.proofs.arm_cases.pose.Goals as goal
 
 pub list-requires : goal.list-requires

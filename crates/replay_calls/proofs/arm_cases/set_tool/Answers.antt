@@ -1,6 +1,5 @@
 -- `set_tool` meets its contract: by what its calls ensure.
 use Rattle.replay_calls.specs.Arms.{set_tool_agrees}
-use borrow.Author.Rules.{rules}
 use Rattle.replay_calls.proofs.arm_cases.set_tool.Goals as goal
 
 pub returns : goal.returns

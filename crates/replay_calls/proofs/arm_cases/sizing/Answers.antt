@@ -11,7 +11,6 @@ use Rattle.stored_answers.specs.Stored.{list_of}
 use Rattle.stored_answers.specs.Agree.{filled-length, left-written, same_answer}
 use Rattle.replay_calls.specs.Table.{plan_output}
 use Rattle.replay_calls.specs.Arms.{sizing_agrees}
-use borrow.Author.Rules.{rules}
 use Rattle.replay_calls.proofs.arm_cases.sizing.Goals as goal
 
 pub list_number-strict-requires : goal.list_number-strict-requires

@@ -10,7 +10,6 @@ use Rattle.stored_answers.specs.Stored.{list_of}
 use Rattle.stored_answers.specs.Agree.{filled-length, left-written, same_answer}
 use Rattle.replay_calls.specs.Table.{update_output}
 use Rattle.replay_calls.specs.Arms.{update_agrees}
-use borrow.Author.Rules.{rules}
 use Rattle.replay_calls.proofs.arm_cases.update.Goals as goal
 
 pub list-requires : goal.list-requires

@@ -13,7 +13,6 @@ use Rattle.stored_answers.specs.Stored.{list_of}
 use Rattle.stored_answers.specs.Agree.{filled-length, left-written, same_answer}
 use Rattle.replay_calls.specs.Table.{objective_outputs}
 use Rattle.replay_calls.specs.Objectives.{gradient_agrees}
-use borrow.Author.Rules.{rules}
 use Rattle.replay_calls.proofs.objective_cases.gradient.Goals as goal
 
 pub list_number-strict-requires : goal.list_number-strict-requires

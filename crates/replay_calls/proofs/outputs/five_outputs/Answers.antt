@@ -6,7 +6,6 @@ use lib.Seq.{length-take-le}
 use Rattle.stored_answers.specs.Stored.{list_of}
 use Rattle.stored_answers.specs.Agree.{front-filled}
 use Rattle.replay_calls.specs.Table.{objective_outputs}
-use borrow.Author.Rules.{rules}
 use Rattle.replay_calls.proofs.outputs.five_outputs.Goals as goal
 
 pub slice_bounds-gradient_one_block-end : goal.slice_bounds-gradient_one_block-end

@@ -9,7 +9,6 @@ use Rattle.stored_answers.specs.Stored.{list_of}
 use Rattle.stored_answers.specs.Agree.{front-filled}
 use Rattle.replay_calls.specs.Table.{pose_outputs, arm_outputs, update_output, objective_outputs, outputs_from}
 use Rattle.replay_calls.specs.Outputs.{one_agrees}
-use borrow.Author.Rules.{rules}
 use Rattle.replay_calls.proofs.outputs.one_output.Goals as goal
 
 pub slice_bounds-pose-end : goal.slice_bounds-pose-end

@@ -5,7 +5,6 @@ use lib.Seq.{length-take-le}
 use Rattle.stored_answers.specs.Stored.{list_of}
 use Rattle.stored_answers.specs.Agree.{front-filled}
 use Rattle.replay_calls.specs.Table.{plan_output}
-use borrow.Author.Rules.{rules}
 use Rattle.replay_calls.proofs.outputs.plan_output.Goals as goal
 
 pub slice_bounds-sizing-end : goal.slice_bounds-sizing-end

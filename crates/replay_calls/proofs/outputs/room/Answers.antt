@@ -1,7 +1,6 @@
 -- `room` meets its contract: by what its call ensures.
 use mathlib.Core.Path.{ap}
 use lib.ListN.{length}
-use borrow.Author.Rules.{rules}
 use Rattle.replay_calls.proofs.outputs.room.Goals as goal
 
 pub returns : goal.returns

@@ -8,7 +8,6 @@ use Rattle.stored_answers.specs.Stored.{list_of}
 use Rattle.stored_answers.specs.Agree.{front-filled}
 use Rattle.replay_calls.specs.Outputs.{three_agree}
 use Rattle.replay_calls.specs.Table.{objective_outputs}
-use borrow.Author.Rules.{rules}
 use Rattle.replay_calls.proofs.outputs.three_outputs.Goals as goal
 
 pub slice_bounds-gradient-end : goal.slice_bounds-gradient-end

@@ -9,7 +9,6 @@ use Rattle.stored_answers.specs.Stored.{list_of}
 use Rattle.stored_answers.specs.Agree.{front-filled}
 use Rattle.replay_calls.specs.Table.{pose_outputs, arm_outputs, outputs_from}
 use Rattle.replay_calls.specs.Outputs.{two_agree}
-use borrow.Author.Rules.{rules}
 use Rattle.replay_calls.proofs.outputs.two_outputs.Goals as goal
 
 pub slice_bounds-frames-end : goal.slice_bounds-frames-end

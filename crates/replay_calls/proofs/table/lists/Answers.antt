@@ -1,7 +1,6 @@
 -- `lists` meets its contract: by what its calls ensure.
 use native.Mathlib.Omega.{arith}
 use Rattle.replay_calls.specs.Table.{lists_of}
-use borrow.Author.Rules.{rules}
 use Rattle.replay_calls.proofs.table.lists.Goals as goal
 
 pub returns : goal.returns

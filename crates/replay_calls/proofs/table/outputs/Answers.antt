@@ -2,7 +2,6 @@
 use native.Mathlib.Omega.{arith}
 use borrow.Author.Tests.{lt-ltb, le-ltb, eq-eqb, ne_eqb}
 use Rattle.replay_calls.specs.Table.{outputs_of}
-use borrow.Author.Rules.{rules}
 use Rattle.replay_calls.proofs.table.outputs.Goals as goal
 
 pub returns-then-call-lt2 : goal.returns-then-call-lt2

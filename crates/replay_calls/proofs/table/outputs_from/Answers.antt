@@ -2,7 +2,6 @@
 use native.Mathlib.Omega.{arith}
 use borrow.Author.Tests.{ne_eqb}
 use Rattle.replay_calls.specs.Table.{outputs_from}
-use borrow.Author.Rules.{rules}
 use Rattle.replay_calls.proofs.table.outputs_from.Goals as goal
 
 pub returns-in-0 : goal.returns-in-0

@@ -6,8 +6,6 @@ use native.Mathlib.Omega.{arith}
 use lib.Ieee.{Float}
 use Rattle.lent_bytes.specs.Lent.{bytes_of}
 use Rattle.stored_answers.specs.Agree.{agrees-begin, agrees_on}
-use Rattle.sequences.proofs.agree.answered.Lts as lts
-use borrow.Author.Rules.{rules}
 use Rattle.sequences.proofs.agree.answered.Goals as goal
 
 pub returns : goal.returns

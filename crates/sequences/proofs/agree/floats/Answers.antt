@@ -1,10 +1,7 @@
 -- `floats` meets its contract: by what its calls ensure.
 use mathlib.Core.Path.{ap, ◌∙◌}
-use borrow.Author.Tests.{not-true, not-false}
 use Rattle.lent_bytes.specs.Lent.{bytes_of}
 use Rattle.stored_answers.specs.Agree.{same_bytes}
-use Rattle.sequences.proofs.agree.floats.Lts as lts
-use borrow.Author.Rules.{rules}
 use Rattle.sequences.proofs.agree.floats.Goals as goal
 
 pub returns-then-not-agreed : goal.returns-then-not-agreed

@@ -2,8 +2,6 @@
 use mathlib.Core.Path.{sym, ap, ◌∙◌}
 use lib.Dec.{eqb}
 use Rattle.stored_answers.specs.Agree.{agrees-none}
-use Rattle.sequences.proofs.agree.number.Lts as lts
-use borrow.Author.Rules.{rules}
 use Rattle.sequences.proofs.agree.number.Goals as goal
 
 pub returns : goal.returns

@@ -6,8 +6,6 @@ use native.Mathlib.Omega.{arith}
 use lib.ListN.{length}
 use Rattle.lent_bytes.specs.Lent.{bytes_of, bytes-length, front, front_of}
 use Rattle.stored_answers.specs.Agree.{same_bytes, same_false}
-use Rattle.sequences.proofs.agree.same_floats.Lts as lts
-use borrow.Author.Rules.{rules}
 use Rattle.sequences.proofs.agree.same_floats.Goals as goal
 
 pub returns-then-xs-gt8192 : goal.returns-then-xs-gt8192

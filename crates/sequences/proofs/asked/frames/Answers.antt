@@ -12,8 +12,6 @@ use Rattle.stored_answers.specs.Agree.{agrees-begin, agrees_on}
 use Rattle.sequences.specs.Table.{outputs}
 use Rattle.sequences.specs.Lists.{left-same}
 use Rattle.sequences.specs.Asked.{frames_agree}
-use Rattle.sequences.proofs.asked.frames.Lts as lts
-use borrow.Author.Rules.{rules}
 use Rattle.sequences.proofs.asked.frames.Goals as goal
 
 pub returns : goal.returns

@@ -1,6 +1,6 @@
 -- `gradient` meets its contract: the number and the value, the scratch list, the slopes.
 use mathlib.Core.Path.{ap, ◌∙◌}
-use mathlib.Core.List.{List, [], ◌∷◌}
+use mathlib.Core.List.{[], ◌∷◌}
 use lib.Ieee.{Float}
 use lib.ListN.{length}
 use Rattle.calls.specs.Answer.{value_if}
@@ -11,8 +11,6 @@ use Rattle.stored_answers.specs.Agree.{same_answer, agrees_on}
 use Rattle.sequences.specs.Table.{objective_outputs}
 use Rattle.sequences.specs.Lists.{left-same}
 use Rattle.sequences.specs.Asked.{gradient_agrees}
-use Rattle.sequences.proofs.asked.gradient.Lts as lts
-use borrow.Author.Rules.{rules}
 use Rattle.sequences.proofs.asked.gradient.Goals as goal
 
 pub returns : goal.returns

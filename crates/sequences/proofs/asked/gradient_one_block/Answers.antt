@@ -1,6 +1,6 @@
 -- `gradient_one_block` meets its contract: the number and the value, the block, the slopes, the record.
 use mathlib.Core.Path.{refl, ap, ◌∙◌}
-use mathlib.Core.List.{List, [], ◌∷◌}
+use mathlib.Core.List.{[], ◌∷◌}
 use native.Mathlib.Omega.{arith}
 use lib.Ieee.{Float}
 use lib.ListN.{length}
@@ -14,8 +14,6 @@ use Rattle.stored_answers.specs.Agree.{same_answer, agrees_on}
 use Rattle.sequences.specs.Table.{objective_outputs}
 use Rattle.sequences.specs.Lists.{left-same}
 use Rattle.sequences.specs.Asked.{one_block_agrees}
-use Rattle.sequences.proofs.asked.gradient_one_block.Lts as lts
-use borrow.Author.Rules.{rules}
 use Rattle.sequences.proofs.asked.gradient_one_block.Goals as goal
 
 pub numbers-d-requires : goal.numbers-d-requires

@@ -5,7 +5,6 @@ use lib.ListN.{length}
 use Rattle.stored_answers.specs.Agree.{agrees-begin, agrees_on}
 use Rattle.sequences.specs.Table.{kept_lists}
 use Rattle.sequences.specs.Asked.{kept_agrees}
-use Rattle.sequences.proofs.asked.kept.Lts as lts
 use borrow.Author.Rules.{rules}
 use Rattle.sequences.proofs.asked.kept.Goals as goal
 

@@ -1,6 +1,6 @@
 -- `manipulability` meets its contract: by what its calls ensure.
 use mathlib.Core.Path.{ap, ◌∙◌}
-use mathlib.Core.List.{List, [], ◌∷◌}
+use mathlib.Core.List.{[], ◌∷◌}
 use lib.Ieee.{Float}
 use Rattle.calls.specs.Answer.{value_if}
 use Rattle.lent_bytes.specs.Lent.{bytes_of}
@@ -9,8 +9,6 @@ use Rattle.state_calls.specs.Arms.{manipulability_number_of, manipulability_valu
 use Rattle.stored_answers.specs.Agree.{same_answer}
 use Rattle.sequences.specs.Table.{outputs}
 use Rattle.sequences.specs.Asked.{manipulability_agrees}
-use Rattle.sequences.proofs.asked.manipulability.Lts as lts
-use borrow.Author.Rules.{rules}
 use Rattle.sequences.proofs.asked.manipulability.Goals as goal
 
 pub returns : goal.returns

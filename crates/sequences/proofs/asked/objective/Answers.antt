@@ -1,6 +1,6 @@
 -- `objective` meets its contract: by what its calls ensure.
 use mathlib.Core.Path.{ap, ◌∙◌}
-use mathlib.Core.List.{List, [], ◌∷◌}
+use mathlib.Core.List.{[], ◌∷◌}
 use lib.Ieee.{Float}
 use Rattle.calls.specs.Answer.{value_if}
 use Rattle.lent_bytes.specs.Lent.{bytes_of}
@@ -9,8 +9,6 @@ use Rattle.state_calls.specs.Objective.{objective_number_of, objective_value_of}
 use Rattle.stored_answers.specs.Agree.{same_answer}
 use Rattle.sequences.specs.Table.{objective_outputs}
 use Rattle.sequences.specs.Asked.{objective_agrees}
-use Rattle.sequences.proofs.asked.objective.Lts as lts
-use borrow.Author.Rules.{rules}
 use Rattle.sequences.proofs.asked.objective.Goals as goal
 
 pub returns : goal.returns

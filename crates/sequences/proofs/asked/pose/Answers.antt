@@ -1,6 +1,6 @@
 -- `pose` meets its contract: the number, then the end poses.
 use mathlib.Core.Path.{ap, ◌∙◌}
-use mathlib.Core.List.{List, [], ◌∷◌}
+use mathlib.Core.List.{List, []}
 use lib.Ieee.{Float}
 use lib.ListN.{length}
 use Rattle.spacetime.specs.Frames.{ends_of}
@@ -12,8 +12,6 @@ use Rattle.stored_answers.specs.Agree.{agrees-begin, agrees_on}
 use Rattle.sequences.specs.Table.{outputs}
 use Rattle.sequences.specs.Lists.{left-same}
 use Rattle.sequences.specs.Asked.{pose_agrees}
-use Rattle.sequences.proofs.asked.pose.Lts as lts
-use borrow.Author.Rules.{rules}
 use Rattle.sequences.proofs.asked.pose.Goals as goal
 
 pub returns : goal.returns

@@ -4,8 +4,6 @@ use mathlib.Core.List.{List}
 use Prim.Native.Nat.{ℕ}
 use Rattle.lent_bytes.specs.Picks.{picks_from}
 use Rattle.stored_answers.specs.Stored.{number_at}
-use Rattle.sequences.proofs.asked.strict.Lts as lts
-use borrow.Author.Rules.{rules}
 use Rattle.sequences.proofs.asked.strict.Goals as goal
 
 pub returns : goal.returns

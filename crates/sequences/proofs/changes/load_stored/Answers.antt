@@ -3,8 +3,6 @@ use mathlib.Core.Path.{ap, ◌∙◌}
 use Rattle.lent_bytes.specs.Lent.{numbers_in, floats_in}
 use Rattle.state_calls.specs.Load.{load_of}
 use Rattle.stored_answers.specs.Same.{same-four}
-use Rattle.sequences.proofs.changes.load_stored.Lts as lts
-use borrow.Author.Rules.{rules}
 use Rattle.sequences.proofs.changes.load_stored.Goals as goal
 
 pub returns : goal.returns

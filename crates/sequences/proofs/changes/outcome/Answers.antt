@@ -4,8 +4,6 @@ use mathlib.Core.Path.{ap}
 use borrow.Author.Tests.{ne_eqb}
 use Rattle.state_calls.specs.declared.state.State.{State}
 use Rattle.sequences.specs.Changes.{outcome_at}
-use Rattle.sequences.proofs.changes.outcome.Lts as lts
-use borrow.Author.Rules.{rules}
 use Rattle.sequences.proofs.changes.outcome.Goals as goal
 
 pub returns-in-0 : goal.returns-in-0

@@ -4,8 +4,6 @@ use Rattle.lent_bytes.specs.Lent.{floats_in}
 use Rattle.lent_bytes.specs.SheetLists.{same-two}
 use Rattle.state_calls.specs.Tools.{set_tool_of}
 use Rattle.stored_answers.specs.Stored.{number_at}
-use Rattle.sequences.proofs.changes.set_tool.Lts as lts
-use borrow.Author.Rules.{rules}
 use Rattle.sequences.proofs.changes.set_tool.Goals as goal
 
 pub returns : goal.returns

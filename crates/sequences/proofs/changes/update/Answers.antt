@@ -2,8 +2,6 @@
 use mathlib.Core.Path.{ap, ◌∙◌}
 use Rattle.lent_bytes.specs.Lent.{floats_in}
 use Rattle.state_calls.specs.Party.{update_state_of}
-use Rattle.sequences.proofs.changes.update.Lts as lts
-use borrow.Author.Rules.{rules}
 use Rattle.sequences.proofs.changes.update.Goals as goal
 
 pub returns : goal.returns

@@ -3,12 +3,11 @@ use Rattle.sequences.specs.Steps.{end_of, record_at}
 use Rattle.stored_answers.specs.Stored.{number_at}
 use lib.ListN.{length}
 use mathlib.Core.Path.{◌≡◌, refl, sym, ap, ◌∙◌}
-use Prim.Native.Nat.{◌+◌, ◌*◌, ◌-◌, ◌≤◌}
+use Prim.Native.Nat.{◌+◌}
 use native.Mathlib.Omega.{arith}
 use borrow.Author.Tests.{lt-ltb, le-ltb, eq-eqb, ne_eqb}
 use Rattle.refusals.specs.Lowest.{first-zero}
 use Rattle.stored_answers.specs.Records.{record_by, damage_at, damage_to, damage_by, record-next, damage-more, damage-found}
-use borrow.Author.Rules.{rules}
 use Rattle.sequences.proofs.damage.damage.Goals as goal
 
 pub returns-then-s-lt2 : goal.returns-then-s-lt2

@@ -1,14 +1,9 @@
 -- `damage` meets its contract: the first damage found is the list's.
 use Rattle.sequences.specs.Table.{last_call, lists_of}
-use Rattle.sequences.specs.Steps.{end_of, record_at}
-use Rattle.stored_answers.specs.Stored.{number_at}
-use lib.ListN.{length}
-use mathlib.Core.Path.{◌≡◌, refl, sym, ap, ◌∙◌}
+use Rattle.sequences.specs.Steps.{record_at}
+use mathlib.Core.Path.{◌≡◌}
 use Prim.Native.Nat.{◌+◌, ◌*◌, ◌-◌, ◌≤◌}
-use native.Mathlib.Omega.{arith}
-use borrow.Author.Tests.{lt-ltb, le-ltb, eq-eqb, ne_eqb}
-use Rattle.refusals.specs.Lowest.{first-zero}
-use Rattle.stored_answers.specs.Records.{record_by, damage_at, damage_to, damage_by, record-next, damage-more, damage-found}
+use Rattle.stored_answers.specs.Records.{damage_to}
 use Rattle.sequences.proofs.damage.damage.Given as goal
 
 abbrev pub invariant-loop-i : goal.invariant-loop-i

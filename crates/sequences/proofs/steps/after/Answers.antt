@@ -3,8 +3,6 @@ use mathlib.Core.Path.{ap, ◌∙◌}
 use Prim.Native.Nat.{ℕ}
 use Rattle.state_calls.specs.declared.state.Outcome.{Outcome}
 use Rattle.sequences.specs.Changes.{outcome_at}
-use Rattle.sequences.proofs.steps.after.Lts as lts
-use borrow.Author.Rules.{rules}
 use Rattle.sequences.proofs.steps.after.Goals as goal
 
 pub returns : goal.returns

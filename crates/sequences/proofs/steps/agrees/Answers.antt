@@ -1,8 +1,6 @@
 -- `agrees` meets its contract: by the tests of the call's number.
 use borrow.Author.Tests.{eq-eqb, ne_eqb, lt-ltb, le-ltb}
 use Rattle.sequences.specs.Asked.{call_agrees, step_agrees}
-use Rattle.sequences.proofs.steps.agrees.Lts as lts
-use borrow.Author.Rules.{rules}
 use Rattle.sequences.proofs.steps.agrees.Goals as goal
 
 pub returns-then-call-lt5 : goal.returns-then-call-lt5

@@ -2,8 +2,6 @@
 use native.Mathlib.Omega.{arith}
 use borrow.Author.Tests.{ne_eqb}
 use Rattle.sequences.specs.Asked.{asked_agrees}
-use Rattle.sequences.proofs.steps.asked_on.Lts as lts
-use borrow.Author.Rules.{rules}
 use Rattle.sequences.proofs.steps.asked_on.Goals as goal
 
 pub returns-in-5 : goal.returns-in-5

@@ -1,8 +1,6 @@
 -- `asked_stored` meets its contract: the joints are decoded.
 use mathlib.Core.Path.{ap, ◌∙◌}
 use Rattle.lent_bytes.specs.Lent.{floats_in}
-use Rattle.sequences.proofs.steps.asked_stored.Lts as lts
-use borrow.Author.Rules.{rules}
 use Rattle.sequences.proofs.steps.asked_stored.Goals as goal
 
 pub asked_on-requires : goal.asked_on-requires

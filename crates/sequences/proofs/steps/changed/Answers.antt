@@ -3,8 +3,6 @@ use mathlib.Core.Path.{ap, ◌∙◌}
 use mathlib.Core.List.{[]}
 use Rattle.state_calls.specs.declared.state.Outcome.{Outcome}
 use Rattle.stored_answers.specs.Agree.{answer_agrees}
-use Rattle.sequences.proofs.steps.changed.Lts as lts
-use borrow.Author.Rules.{rules}
 use Rattle.sequences.proofs.steps.changed.Goals as goal
 
 pub returns : goal.returns

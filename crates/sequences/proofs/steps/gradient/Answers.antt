@@ -6,8 +6,6 @@ use Rattle.stored_answers.specs.Stored.{list_of}
 use Prim.Native.Nat.{◌+◌}
 use Rattle.sequences.specs.Table.{objective_outputs}
 use Rattle.sequences.specs.Lists.{front-floats}
-use Rattle.sequences.proofs.steps.gradient.Lts as lts
-use borrow.Author.Rules.{rules}
 use Rattle.sequences.proofs.steps.gradient.Goals as goal
 
 pub slice_bounds-gradient-end : goal.slice_bounds-gradient-end

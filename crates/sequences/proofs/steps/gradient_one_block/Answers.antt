@@ -7,8 +7,6 @@ use Prim.Native.Nat.{◌+◌}
 use Rattle.lent_bytes.specs.Lent.{floats_in}
 use Rattle.sequences.specs.Table.{objective_outputs}
 use Rattle.sequences.specs.Lists.{front-floats, front-numbers}
-use Rattle.sequences.proofs.steps.gradient_one_block.Lts as lts
-use borrow.Author.Rules.{rules}
 use Rattle.sequences.proofs.steps.gradient_one_block.Goals as goal
 
 pub slice_bounds-gradient_one_block-end-2 : goal.slice_bounds-gradient_one_block-end-2

@@ -5,8 +5,6 @@ use Prim.Native.Nat.{ℕ}
 use native.Mathlib.Omega.{arith}
 use lib.ListN.{length}
 use Rattle.lent_bytes.specs.Lent.{number_room_in, number-room-within}
-use Rattle.sequences.proofs.steps.number_room.Lts as lts
-use borrow.Author.Rules.{rules}
 use Rattle.sequences.proofs.steps.number_room.Goals as goal
 
 pub returns : goal.returns

@@ -5,8 +5,6 @@ use lib.Seq.{length-take-le}
 use Rattle.stored_answers.specs.Stored.{list_of}
 use Rattle.sequences.specs.Table.{outputs}
 use Rattle.sequences.specs.Lists.{front-floats}
-use Rattle.sequences.proofs.steps.pose.Lts as lts
-use borrow.Author.Rules.{rules}
 use Rattle.sequences.proofs.steps.pose.Goals as goal
 
 pub slice_bounds-pose-end : goal.slice_bounds-pose-end

@@ -5,8 +5,6 @@ use Prim.Native.Nat.{ℕ}
 use native.Mathlib.Omega.{arith}
 use lib.ListN.{length}
 use Rattle.lent_bytes.specs.Lent.{room_in, room_within}
-use Rattle.sequences.proofs.steps.room.Lts as lts
-use borrow.Author.Rules.{rules}
 use Rattle.sequences.proofs.steps.room.Goals as goal
 
 pub returns : goal.returns

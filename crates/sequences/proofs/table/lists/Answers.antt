@@ -2,8 +2,6 @@
 use native.Mathlib.Omega.{arith}
 use borrow.Author.Tests.{ne_eqb}
 use Rattle.sequences.specs.Table.{lists_of}
-use Rattle.sequences.proofs.table.lists.Lts as lts
-use borrow.Author.Rules.{rules}
 use Rattle.sequences.proofs.table.lists.Goals as goal
 
 pub returns-in-0 : goal.returns-in-0

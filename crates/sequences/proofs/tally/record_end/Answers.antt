@@ -1,7 +1,6 @@
 -- `record_end` meets its contract: by what its calls ensure.
 use native.Mathlib.Omega.{arith}
 use Rattle.stored_answers.specs.Records.{end_by}
-use borrow.Author.Rules.{rules}
 use Rattle.sequences.proofs.tally.record_end.Goals as goal
 
 pub returns : goal.returns

@@ -1,12 +1,11 @@
 use mathlib.Core.Path.{◌≡◌, refl, sym, ap, ◌∙◌}
-use Prim.Native.Nat.{◌+◌, ◌*◌, ◌-◌, ◌≤◌}
+use Prim.Native.Nat.{◌+◌}
 use native.Mathlib.Omega.{arith}
 use Rattle.lent_bytes.specs.SheetLists.{same-two, same-three}
 use Rattle.stored_answers.specs.Records.{record_by, is_case, is_different, sum_of, cases_by, differ_by, record-next, sum_more}
 use Rattle.sequences.specs.Table.{lists_of}
 use Rattle.sequences.specs.Asked.{step_agrees}
 use Rattle.sequences.specs.Steps.{end_of, record_at, after_of, state_at, agrees_at, state-next}
-use borrow.Author.Rules.{rules}
 use Rattle.sequences.proofs.tally.tally.Goals as goal
 
 pub loop-i-init : goal.loop-i-init

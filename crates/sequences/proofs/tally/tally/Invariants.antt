@@ -1,12 +1,8 @@
 -- `tally` meets its contract: each turn makes one step and counts it.
-use mathlib.Core.Path.{◌≡◌, refl, sym, ap, ◌∙◌}
+use mathlib.Core.Path.{◌≡◌}
 use Prim.Native.Nat.{◌+◌, ◌*◌, ◌-◌, ◌≤◌}
-use native.Mathlib.Omega.{arith}
-use Rattle.lent_bytes.specs.SheetLists.{same-two, same-three}
-use Rattle.stored_answers.specs.Records.{record_by, is_case, is_different, sum_of, cases_by, differ_by, record-next, sum_more}
-use Rattle.sequences.specs.Table.{lists_of}
-use Rattle.sequences.specs.Asked.{step_agrees}
-use Rattle.sequences.specs.Steps.{end_of, record_at, after_of, state_at, agrees_at, state-next}
+use Rattle.stored_answers.specs.Records.{is_case, is_different, sum_of}
+use Rattle.sequences.specs.Steps.{record_at, state_at, agrees_at}
 use Rattle.sequences.proofs.tally.tally.Given as goal
 
 abbrev pub invariant-loop-i : goal.invariant-loop-i
