@@ -5,7 +5,7 @@
 use crate::arms::{asked, Call, Lent, List, CALLS};
 use crate::cases::{exact, lent_at, put_beyond, Shape};
 use crate::leaves;
-use crate::record::{self, Record};
+use crate::record::Record;
 use crate::strict::PICKS;
 use draw::{half_turns, Draw};
 use reference::refusals::{reach, BLOCKS};
@@ -134,7 +134,7 @@ pub fn all(draw: &mut Draw) -> Vec<Record> {
 pub fn undo(record: &mut Record) {
     if matches!(record.call, 12 | 13 | 34..=36) {
         let x = f64::from_le_bytes(record.lists[0][..].try_into().expect("one float"));
-        record.lists[1] = record::answer_bytes(&unreduced(record.call, x));
+        record.lists[1] = crate::record::answer_bytes(&unreduced(record.call, x));
     }
 }
 

@@ -160,19 +160,19 @@ mod tests {
     use super::*;
 
     const SOURCE: &str = "
-        #[no_mangle]
+        #[unsafe(no_mangle)]
         pub extern \"C\" fn ik_pose(
             sizes: &[u8], // chains
             ends: &mut [u8],
         ) -> u32
-            ensures number { λ r. ⌜ r ≡ 0 ⌝ }
+            ensures number { result ≡ 0 }
         {
             0
         }
 
         fn inner(x: f64) -> f64 { x }
 
-        #[no_mangle]
+        #[unsafe(no_mangle)]
         pub extern \"C\" fn ik_b() -> f64 { 1.0 }";
     const HEADER: &str = "
         /* one; two */

@@ -92,7 +92,7 @@ fn arrow(rest: &str) -> Result<Type, String> {
 pub fn rattle(text: &str) -> Result<Vec<Function>, String> {
     let text = bare(text);
     let mut functions = Vec::new();
-    for part in text.split("#[no_mangle]").skip(1) {
+    for part in text.split("#[unsafe(no_mangle)]").skip(1) {
         let part = part.trim_start();
         let part = part.strip_prefix("pub extern \"C\" fn ");
         let part = part.ok_or("no_mangle on something else than pub extern \"C\" fn")?;

@@ -1,9 +1,10 @@
 //! What a state of the crates has: each definition, promise, law and proof, with its text freed of layout and comments.
 
+use crate::spelling;
 use pages::files;
 use pages::source;
 use pages::specs;
-use pages::words::{self, Word};
+use pages::words::{self, Kind as Sort, Word};
 use std::fs;
 use std::path::Path;
 
@@ -35,14 +36,22 @@ pub struct Item {
 }
 
 /// Words with one space between them. Who sees an item, and a comma before a closing bracket, make no difference.
-fn plain(words: &[Word]) -> String {
+fn spaced(words: &[Word]) -> String {
     let kept = words.iter().enumerate().filter(|(at, word)| {
         let next = words.get(at + 1);
         let trails = word.is(",") && next.is_some_and(|next| [")", "}"].iter().any(|c| next.is(c)));
         !trails && !word.is("pub")
     });
-    let texts: Vec<&str> = kept.map(|(_, word)| word.text.as_str()).collect();
-    texts.join(" ")
+    let text = |(_, word): (usize, &Word)| match word.kind {
+        Sort::Field => format!(".{}", word.text),
+        _ => word.text.clone(),
+    };
+    kept.map(text).collect::<Vec<_>>().join(" ")
+}
+
+/// The same in today's spelling.
+fn plain(words: &[Word]) -> String {
+    spaced(&spelling::today(words))
 }
 
 /// The texts of a specs item: a definition has one, a law its statement and its proof.
@@ -66,7 +75,7 @@ fn spec_texts(item: &specs::Item) -> Vec<(Kind, String)> {
 
 /// The texts of a source item: a type is a definition, for contracts speak of it; a function has its signature and its clauses.
 fn source_texts(item: &source::Item) -> Vec<(Kind, String, String)> {
-    let head = plain(&words::words(&item.text));
+    let head = spaced(&words::words(&item.text));
     match item.kind {
         source::Kind::Constant => Vec::new(),
         source::Kind::Type => vec![(Kind::Definition, item.name.clone(), head)],
@@ -82,7 +91,7 @@ fn source_texts(item: &source::Item) -> Vec<(Kind, String, String)> {
                 } else {
                     word.to_string()
                 };
-                texts.push(promise(&what, plain(&clause.text)));
+                texts.push(promise(&what, plain(&spelling::clause(&clause.text))));
             }
             texts
         }
@@ -94,6 +103,17 @@ fn proof_text(text: &str) -> String {
     let lines = text.lines().map(words::code);
     let kept: Vec<&str> = lines.filter(|line| !line.starts_with("use ")).collect();
     plain(&words::words(&kept.join("\n")))
+}
+
+/// A function's answers go by its name, and so does a proof in one file, as the older language has it; its invariants are a proof beside it.
+fn proof_name(path: &str) -> String {
+    let (folder, file) = path.rsplit_once('/').unwrap_or(("", path));
+    let function = folder.rsplit('/').next().unwrap_or(folder);
+    match file {
+        "Answers.antt" | "Proof.antt" => function.to_string(),
+        "Invariants.antt" => format!("{function} invariants"),
+        _ => file.to_string(),
+    }
 }
 
 /// The files below a folder with this ending, in any depth.
@@ -127,16 +147,14 @@ fn of_file(place: &str, text: &str) -> Vec<(Kind, String, String)> {
         return Vec::new();
     }
     if let Some(proof) = place.strip_prefix("proofs/") {
-        let name = proof.trim_end_matches("/Proof.antt");
-        let name = name.rsplit('/').next().unwrap_or(name).to_string();
-        return vec![(Kind::Proof, name, proof_text(text))];
+        return vec![(Kind::Proof, proof_name(proof), proof_text(text))];
     }
     if place.starts_with("specs/") {
         let items = specs::parse(text).items;
         let named = |item: specs::Item| {
             spec_texts(&item)
                 .into_iter()
-                .map(move |(kind, text)| (kind, item.name.clone(), text))
+                .map(move |(kind, text)| (kind, spelling::name(&item.name), text))
         };
         return items.into_iter().flat_map(named).collect();
     }
@@ -217,24 +235,31 @@ mod tests {
 
     #[test]
     fn a_function_is_its_signature_and_clauses() {
-        let wide = "pub(crate) fn f(\n    a: u16, // first\n    b: u16,\n) -> bool\n    requires { ⌜ a < b ⌝ }\n    ensures value { λ r. ⌜ r ≡\n        a ⌝ }\n{\n    x\n}\n";
-        let narrow = "fn f(a: u16, b: u16) -> bool\n    requires { ⌜ a < b ⌝ } ensures value { λ r. ⌜ r ≡ a ⌝ }\n{ y }\n";
+        let wide = "pub(crate) fn f(\n    a: u16, // first\n    b: u16,\n) -> bool\n    requires { a < b }\n    ensures value { result ≡\n        a.now }\n{\n    x\n}\n";
+        let narrow = "fn f(a: u16, b: u16) -> bool\n    requires { a < b } ensures value { result ≡ a.now }\n{ y }\n";
         let found = texts("src/a.rt", wide);
         assert_eq!(found, texts("src/a.rt", narrow));
         let names: Vec<&str> = found.iter().map(|(_, name, _)| name.as_str()).collect();
         assert_eq!(names, ["f signature", "f requires", "f ensures value"]);
-        assert_eq!(found[2].2, "λ r . ⌜ r ≡ a ⌝");
+        assert_eq!(found[2].2, "result ≡ a .now");
+        let older = "fn f(a: u16, b: u16) -> bool\n    requires { ⌜ a < b ⌝ } ensures value { λ r. ⌜ r ≡ now (a .entry) ⌝ }\n{ y }\n";
+        assert_eq!(found, texts("src/a.rt", older));
     }
 
     #[test]
     fn a_proof_is_compared_without_its_use_lines() {
-        let found = texts(
-            "proofs/arm/walk/Proof.antt",
-            "use a.B.{c}\n-- why\npub x : c\nx = c\n",
-        );
-        assert_eq!(
-            found,
-            [(Kind::Proof, "walk".to_string(), "x : c x = c".to_string())]
-        );
+        let text = "use a.B.{c}\n-- why\npub x : c\nx = c\n";
+        let of = |name: &str| {
+            let (name, text) = (name.to_string(), "x : c x = c".to_string());
+            [(Kind::Proof, name, text)]
+        };
+        for (path, name) in [
+            ("proofs/arm/walk/Answers.antt", "walk"),
+            ("proofs/arm/walk/Invariants.antt", "walk invariants"),
+            ("proofs/walk/Proof.antt", "walk"),
+            ("proofs/Turn.antt", "Turn.antt"),
+        ] {
+            assert_eq!(texts(path, text), of(name));
+        }
     }
 }

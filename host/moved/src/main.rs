@@ -5,6 +5,7 @@
 
 mod items;
 mod pairs;
+mod spelling;
 
 use items::{Kind, KINDS};
 use pairs::{Fate, Told};
@@ -14,16 +15,17 @@ use std::process::ExitCode;
 use std::{env, io};
 
 const USAGE: &str = "\
-moved OLD NEW [--list]
+moved OLD NEW [--list | --texts]
 
   OLD, NEW  two folders with the repository in two states
   --list    name each item that did not stay as it was and where it was
+  --texts   the same, with the old and the new text of each that changed
 
 A definition is an unfoldable or abbreviated item, a data type or a record of specs/, or a type of src/. A promise is a clause of a
 function's contract, or its signature. A law is an item of specs/ that is no definition: its statement with the parameters of the modules
 around it; its proof is counted by itself. A proof of a function is a file below proofs/. Layout, comments, `use` lines and `pub` make no
-difference. What stands in another file or crate, or differs in nothing but new names of definitions, laws and functions, has moved and
-counts as stayed.";
+difference, nor does what the language spelled otherwise before the port. What stands in another file or crate, differs in nothing but new
+names of definitions, laws and functions, or is a clause under another name, has moved and counts as stayed.";
 
 const FATES: [(Fate, &str); 4] = [
     (Fate::Added, "added"),
@@ -107,7 +109,7 @@ impl Ledger<'_> {
         text
     }
 
-    fn list(&self) -> String {
+    fn list(&self, line: fn(&Told) -> String) -> String {
         let mut text = String::new();
         for (_, name, told) in &self.kinds {
             for (fate, word) in FATES {
@@ -141,7 +143,20 @@ fn line(one: &Told) -> String {
     text + "\n"
 }
 
-fn run(old: &str, new: &str, list: bool) -> Result<String, String> {
+/// The same, with both texts where the item changed. A proof's are left out.
+fn texts(one: &Told) -> String {
+    let proof = matches!(one.item.kind, Kind::Proof | Kind::LawProof);
+    match one.old {
+        Some(old) if one.fate == Fate::Changed && !proof => {
+            let texts = [&old.text, &one.item.text];
+            let [old, new] = texts.map(|text| format!("      {text}\n"));
+            format!("{}{old}{new}", line(one))
+        }
+        _ => line(one),
+    }
+}
+
+fn run(old: &str, new: &str, list: Option<fn(&Told) -> String>) -> Result<String, String> {
     let (old, new) = (items::all(Path::new(old))?, items::all(Path::new(new))?);
     let names = pairs::names(&old, &new);
     let kinds = KINDS.map(|(kind, name)| (kind, name, pairs::told(&old, &new, kind, &names)));
@@ -153,8 +168,8 @@ fn run(old: &str, new: &str, list: bool) -> Result<String, String> {
         ledger.totals(),
         ledger.crates()
     );
-    if list {
-        text.push_str(&ledger.list());
+    if let Some(line) = list {
+        text.push_str(&ledger.list(line));
     }
     Ok(text)
 }
@@ -165,14 +180,16 @@ fn main() -> ExitCode {
         .iter()
         .map(String::as_str)
         .partition(|word| word.starts_with('-'));
-    let ([old, new], true) = (
-        &folders[..],
-        options.iter().all(|option| *option == "--list"),
-    ) else {
+    let list: Option<fn(&Told) -> String> = match options[..] {
+        ["--list"] => Some(line),
+        ["--texts"] => Some(texts),
+        _ => None,
+    };
+    let ([old, new], true) = (&folders[..], list.is_some() || options.is_empty()) else {
         eprintln!("{USAGE}");
         return ExitCode::from(2);
     };
-    match run(old, new, !options.is_empty()) {
+    match run(old, new, list) {
         Ok(text) => match io::Write::write_all(&mut io::stdout(), text.as_bytes()) {
             Ok(()) => ExitCode::SUCCESS,
             Err(_) => ExitCode::FAILURE,

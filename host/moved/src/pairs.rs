@@ -52,8 +52,16 @@ fn unnamed(item: &Item, names: &Names) -> Option<String> {
     told.then(|| names.unnamed(&item.name, &item.text))
 }
 
+/// A clause by its function, its kind and its text, whatever its name.
+fn clause(item: &Item, names: &Names) -> Option<String> {
+    let (function, what) = item.name.split_once(' ')?;
+    let kind = what.split(' ').next()?;
+    let told = item.kind == Kind::Promise;
+    told.then(|| joined(&[&item.krate, function, kind, &names.renewed(&item.text)]))?
+}
+
 // A name can stand in two crates and be renamed in one, so the name as it is comes before the new one.
-const STEPS: [(Fate, Key); 11] = [
+const STEPS: [(Fate, Key); 12] = [
     (Fate::Stayed, |i, _| {
         joined(&[&i.krate, &i.place, &i.name, &i.text])
     }),
@@ -62,6 +70,7 @@ const STEPS: [(Fate, Key); 11] = [
     (Fate::Moved, |i, n| {
         joined(&[&n.renewed(&i.name), &n.renewed(&i.text)])
     }),
+    (Fate::Moved, clause),
     (Fate::Changed, |i, _| joined(&[&i.krate, &i.place, &i.name])),
     (Fate::Changed, |i, n| {
         joined(&[&i.krate, &i.place, &n.renewed(&i.name)])
@@ -228,6 +237,23 @@ mod tests {
                 ("goes", Fate::Removed),
             ]
         );
+    }
+
+    #[test]
+    fn a_clause_under_another_name_has_moved() {
+        let clause = |name: &str, text: &str| Item {
+            kind: Kind::Promise,
+            ..item("a", "A", name, text)
+        };
+        let (old, new) = (
+            [clause("f ensures", "1"), clause("f ensures", "2")],
+            [clause("f ensures value", "2"), clause("f requires", "1")],
+        );
+        let fates: Vec<Fate> = told(&old, &new, Kind::Promise, &Names::default())
+            .iter()
+            .map(|t| t.fate)
+            .collect();
+        assert_eq!(fates, [Fate::Moved, Fate::Added, Fate::Removed]);
     }
 
     #[test]

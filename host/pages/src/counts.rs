@@ -5,8 +5,17 @@ use crate::repository::{Closure, Crate, Id, KitName, Repository};
 use crate::specs::Kind;
 use std::collections::{BTreeMap, BTreeSet};
 
-/// The kit's libraries that declare C functions.
-const FOREIGN: [&str; 2] = ["libc", "os"];
+/// The kit's libraries that declare C functions, and the parts of its `std` that call them.
+const FOREIGN: [&str; 8] = [
+    "libc",
+    "os",
+    "std::env",
+    "std::fs",
+    "std::io",
+    "std::net",
+    "std::process",
+    "std::time",
+];
 
 /// What a file has: believed definitions and their lines, other definitions, laws.
 #[derive(Default)]
@@ -161,9 +170,13 @@ impl<'a> Counts<'a> {
     /// Which crates need C functions, whose contracts nobody proves.
     pub fn assumed(&self) -> String {
         let needing = |one: &Crate| {
-            let foreign = FOREIGN
-                .iter()
-                .filter(|library| one.needs.iter().any(|need| need == *library));
+            let used = self.all.paths(&one.name);
+            let named = |library: &str| {
+                let listed = one.needs.iter().any(|need| need == library);
+                let inside = |path: &str| path.starts_with(&format!("{library}::"));
+                listed || used.iter().any(|path| *path == library || inside(path))
+            };
+            let foreign = FOREIGN.iter().filter(|library| named(library));
             let foreign: Vec<String> = foreign.map(|library| format!("`{library}`")).collect();
             let needs = format!("`{}` needs the kit's {}", one.name, foreign.join(" and "));
             (!foreign.is_empty()).then_some(needs)

@@ -35,9 +35,8 @@ fn rows(item: &Item) -> BTreeSet<u32> {
 
 /// The rows of everything that the words lead to. What a statement binds leads nowhere.
 fn rows_of(all: &Repository, path: &str, words: &[Word]) -> Result<BTreeSet<u32>, String> {
-    let meant = words
-        .iter()
-        .filter_map(|word| all.means(path, &word.text).ok());
+    let names = words.iter().filter(|word| word.is_name());
+    let meant = names.filter_map(|word| all.means(path, &word.text).ok());
     let items = meant.filter(|meaning| meaning.item().is_some()).collect();
     let found = all.closure(items)?.items;
     let specs = found.iter().filter_map(|id| all.items[*id].spec());

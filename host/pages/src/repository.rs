@@ -97,13 +97,13 @@ pub struct Repository {
     at: BTreeMap<(String, String), Id>,
 }
 
-/// The lines `NAME: DEP DEP ..` of crates.txt.
+/// The lines `NAME: DEP DEP ..` of crates.txt; in front of the colon may stand what else the crate is.
 fn crates(text: &str) -> Result<Vec<Crate>, String> {
     let line = |line: &str| {
         let fault = || format!("crates.txt: no colon in '{line}'");
         let (name, needs) = line.split_once(':').ok_or_else(fault)?;
         Ok(Crate {
-            name: name.trim().to_string(),
+            name: name.split_whitespace().next().unwrap_or("").to_string(),
             needs: needs.split_whitespace().map(str::to_string).collect(),
         })
     };
@@ -177,7 +177,8 @@ impl Repository {
     /// What a name means where a clause or a specs file writes it.
     pub fn means(&self, path: &str, name: &str) -> Result<Meaning, String> {
         let own = Some(path).filter(|path| path.ends_with(".antt"));
-        if let Some(id) = own.and_then(|path| self.find(path, name)) {
+        let bare = name.split('.').next().unwrap_or(name);
+        if let Some(id) = own.and_then(|path| self.find(path, bare)) {
             return Ok(Meaning::Item(id));
         }
         let imports = self.imports.get(path);
@@ -226,9 +227,7 @@ impl Repository {
     /// What a function's contract names, directly, and the types of its signature.
     pub fn named(&self, id: Id) -> Result<Vec<Meaning>, String> {
         let clauses = self.items[id].code().into_iter().flat_map(|c| &c.clauses);
-        let uses = clauses.flat_map(|clause| clause.uses.iter().cloned());
-        // Every clause is lent `now`.
-        let uses: Names = uses.filter(|name| name != "now").collect();
+        let uses: Names = clauses.flat_map(|c| c.uses.iter().cloned()).collect();
         let mut all = self.types_of(id);
         all.extend(self.meant(id, &uses)?);
         Ok(all)
@@ -288,6 +287,15 @@ impl Repository {
         ids.filter(|id| is_call(&self.items[*id])).collect()
     }
 
+    /// The paths that the `use` lines of a crate's code bring.
+    pub fn paths(&self, of: &str) -> Vec<&str> {
+        let folder = format!("crates/{of}/src/");
+        let files = self.used.iter();
+        let files = files.filter(|(path, _)| path.starts_with(&folder));
+        let paths = files.flat_map(|(_, used)| used.values());
+        paths.map(String::as_str).collect()
+    }
+
     /// How many functions the files below a folder have.
     pub fn functions(&self, folder: &str) -> usize {
         let is_function = |item: &&Item| {
@@ -302,7 +310,7 @@ impl Repository {
 /// The names by which an item is found: its own, the parts of an operator, a data type's cases.
 fn names(item: &Item) -> Vec<String> {
     let mut names = vec![item.name().to_string()];
-    if let Some(spec) = item.spec() {
+    if let Some(spec) = item.spec().filter(|spec| spec.kind != specs::Kind::Fixity) {
         names.extend(specs::parts(&spec.name).into_iter().map(str::to_string));
         names.extend(spec.cases.iter().cloned());
     }

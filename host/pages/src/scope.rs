@@ -6,9 +6,9 @@ use std::collections::BTreeSet;
 pub type Names = BTreeSet<String>;
 
 /// Reserved words, and what every file has without a `use` line.
-const GIVEN: [&str; 20] = [
+const GIVEN: [&str; 18] = [
     "λ", "let", "in", "record", "where", "pub", "Type", "Unit", "tt", "⊥", "×", "→", "=", ":", "_",
-    "|", "↦", "elim", "⌜", "⌝",
+    "|", "↦", "elim",
 ];
 
 /// The names that the words bind: by λ, by `let`, in `(x : T)`, and at the head of a line behind `where`.
@@ -70,7 +70,8 @@ fn typed(words: &[Word]) -> Names {
     }
 }
 
-/// The names that the words refer to, but for those in `outer` and those bound within.
+/// The names that the words refer to, but for those in `outer` and those bound within. A name has the field behind it with it, for it can
+/// be that of a module.
 pub fn free(words: &[Word], outer: &Names) -> Names {
     let inner = bound(words);
     let refers = |(at, word): &(usize, &Word)| {
@@ -78,14 +79,14 @@ pub fn free(words: &[Word], outer: &Names) -> Names {
         let number = word.text.starts_with(|c: char| c.is_ascii_digit());
         word.is_name() && !given && !number && !is_label(words, *at)
     };
-    let names = words
-        .iter()
-        .enumerate()
-        .filter(refers)
-        .map(|(_, word)| word.text.clone());
-    names
-        .filter(|name| !inner.contains(name) && !outer.contains(name))
-        .collect()
+    let is_bound = |name: &String| inner.contains(name) || outer.contains(name);
+    let names = words.iter().enumerate().filter(refers);
+    let names = names.filter(|(_, word)| !is_bound(&word.text));
+    let whole = |(at, word): (usize, &Word)| match words.get(at + 1) {
+        Some(field) if field.kind == Kind::Field => format!("{}.{}", word.text, field.text),
+        _ => word.text.clone(),
+    };
+    names.map(whole).collect()
 }
 
 /// A field's name in `record { a = x; b = y }`, or an implicit argument's.
@@ -124,7 +125,8 @@ mod tests {
         assert_eq!(free_in("λ x (y : T). f x y z"), ["T", "f", "z"]);
         assert_eq!(free_in("let d = g a in h d"), ["a", "g", "h"]);
         assert_eq!(free_in("(a b : T) → a ≡ c"), ["T", "c", "≡"]);
-        assert_eq!(free_in("record { x = s .x; y = 12 }"), ["s"]);
+        assert_eq!(free_in("record { x = s.x; y = 12 }"), ["s.x"]);
+        assert_eq!(free_in("λ (x : T). (f x.now).y"), ["T", "f"]);
         assert_eq!(
             free_in("go t\nwhere\ngo : A → B\ngo u = u v"),
             ["A", "B", "t", "u", "v"]

@@ -124,18 +124,23 @@ fn parameters(signature: &str) -> Names {
     names
 }
 
-/// A clause's words, its `requires` or `ensures` and its name, stand in `head`, its body in `body`.
+/// A clause's words, its `requires` or `ensures` and its name, stand in `head`, its body in `body`. Each `ensures` is lent `result`.
 fn clause(text: &str, head: &Range<usize>, body: &Range<usize>, bound: &Names) -> Option<Clause> {
     let words = text[head.clone()].split_whitespace();
     let named: Vec<&str> = words.skip_while(|word| !CLAUSES.contains(word)).collect();
     let kind = text[head.clone()].find(named.first()?)?;
     let inside = text[body.clone()].trim_matches(['{', '}']);
     let inside = words::words(inside);
+    let asks = named.first() == Some(&"requires");
+    let mut bound = bound.clone();
+    if !asks {
+        bound.insert("result".to_string());
+    }
     Some(Clause {
         name: named.last()?.to_string(),
-        asks: named.first() == Some(&"requires"),
+        asks,
         line: line_of(text, head.start + kind),
-        uses: scope::free(&inside, bound),
+        uses: scope::free(&inside, &bound),
         text: inside,
     })
 }
@@ -226,13 +231,20 @@ fn item(text: &str, bare: &str, at: usize, line: &str) -> Option<(Item, usize)> 
     Some((item, end))
 }
 
-/// A `use` line: the last word of the path, or what follows `as`, and the path.
-fn used(line: &str) -> Option<(String, String)> {
-    let path = line.trim().strip_prefix("use ")?.trim_end_matches(';');
-    let (path, name) = path
-        .split_once(" as ")
-        .unwrap_or((path, path.rsplit("::").next()?));
-    Some((name.trim().to_string(), path.trim().to_string()))
+/// What a `use` line brings, one or several in braces: the last word of the path, or what follows `as`, and the path.
+fn used(line: &str) -> Vec<(String, String)> {
+    let Some(path) = line.trim().strip_prefix("use ") else {
+        return Vec::new();
+    };
+    let path = path.trim_end_matches(';');
+    let (front, inside) = path.split_once('{').unwrap_or(("", path));
+    let several = inside.trim_end_matches('}').split(',').map(str::trim);
+    let bring = |one: &str| {
+        let last = one.rsplit("::").next().unwrap_or(one);
+        let (one, name) = one.split_once(" as ").unwrap_or((one, last));
+        (name.to_string(), format!("{front}{one}"))
+    };
+    several.filter(|one| !one.is_empty()).map(bring).collect()
 }
 
 fn items(text: &str, bare: &str) -> Vec<Item> {
@@ -262,7 +274,7 @@ pub fn parse(text: &str) -> File {
     };
     File {
         imports: ghost.flat_map(specs::import).collect(),
-        used: bare.lines().filter_map(used).collect(),
+        used: bare.lines().flat_map(used).collect(),
         modules: bare.lines().filter_map(module).collect(),
         items: items(text, &bare),
     }
@@ -273,14 +285,17 @@ mod tests {
     use super::*;
 
     const TEXT: &str = "\
+#![tactic(auto)]
 // A page.
 use crate::state::State;
 use refusals::lent as bytes;
-ghost use Rattle·first·specs.specs.Num.{sumOf, _⊕_};
+use refusals::{load, shape as form};
+ghost use Rattle.first.specs.Num.{sum_of, ◌⊕◌};
 pub mod arms;
 mod kept;
 
 // Two floats.
+#[derive(Clone, Copy)]
 pub struct Pair {
     pub a: f64, // the first
     pub next: Kind,
@@ -294,11 +309,11 @@ const LARGE: [u16; 2] = [
 impl Pair {
     // Adds
     // them.
-    #[no_mangle]
+    #[unsafe(no_mangle)]
     pub extern \"C\" fn sum(state: State, new_list: &mut [f64]) -> Pair
-        requires { ⌜ sumOf state ⌝ }
-        ensures list { λ r. ⌜ now («new_list» .exit) ≡ r ⊕ sumOf
-            (record { a = r }) ⌝ }
+        requires { sum_of state.now }
+        ensures list { new_list.new ≡ result ⊕ sum_of
+            (record { a = result.next }) }
     {
         if bytes::first(LARGE) { 1 } else { inner(2) }
     }
@@ -320,14 +335,16 @@ fn inner(x: f64) -> f64 {
         assert_eq!(
             places,
             [
-                ("Pair", 9, 12),
-                ("LARGE", 14, 17),
-                ("sum", 23, 29),
-                ("inner", 32, 34)
+                ("Pair", 12, 15),
+                ("LARGE", 17, 20),
+                ("sum", 26, 32),
+                ("inner", 35, 37)
             ]
         );
         assert_eq!(file.modules, ["arms"]);
         assert_eq!(file.used["bytes"], "refusals::lent");
+        assert_eq!(file.used["load"], "refusals::load");
+        assert_eq!(file.used["form"], "refusals::shape");
     }
 
     #[test]
@@ -341,11 +358,11 @@ fn inner(x: f64) -> f64 {
             .iter()
             .map(|c| (c.name.as_str(), c.line))
             .collect();
-        assert_eq!(clauses, [("requires", 24), ("list", 25)]);
+        assert_eq!(clauses, [("requires", 27), ("list", 28)]);
         assert!(sum.clauses[0].asks && !sum.clauses[1].asks);
         assert_eq!(
             sum.clauses[1].uses.iter().collect::<Vec<_>>(),
-            ["now", "sumOf", "≡", "⊕"]
+            ["sum_of", "≡", "⊕"]
         );
         assert_eq!(sum.types.iter().collect::<Vec<_>>(), ["Pair", "State"]);
         assert_eq!(file.items[0].types.iter().collect::<Vec<_>>(), ["Kind"]);

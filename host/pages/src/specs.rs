@@ -68,29 +68,28 @@ struct Block {
     head: Vec<Word>,
 }
 
-/// The parts by which an operator is written: `_⊕_` as `⊕`.
+/// The parts by which an operator is written: `◌⊕◌` as `⊕`.
 pub fn parts(name: &str) -> Vec<&str> {
-    if name.trim_matches('_').is_empty() {
-        return vec![name];
-    }
-    name.split('_').filter(|part| !part.is_empty()).collect()
+    name.split('◌').filter(|part| !part.is_empty()).collect()
 }
 
 /// The file of a module of a crate, and the type's name where the module is that of a declared type.
 fn place(module: &str) -> Option<(String, Option<String>)> {
-    let module = module.strip_prefix("Rattle·")?;
-    let Some((name, rest)) = module.split_once(".specs") else {
+    let own = module.strip_prefix("Rattle.")?;
+    if own.starts_with("std.") {
+        return None;
+    }
+    let Some((name, rest)) = own.split_once(".specs") else {
         // No such file is read, so a name that leads there is told.
-        return Some((format!("the module {module}"), None));
+        return Some((format!("the module {own}"), None));
     };
-    let name = name.trim_end_matches("·specs");
     let rest = rest.trim_start_matches('.');
     let Some(declared) = rest.strip_prefix("declared.") else {
         let file = if rest.is_empty() { "Lib" } else { rest };
         let file = file.replace('.', "/");
         return Some((format!("crates/{name}/specs/{file}.antt"), None));
     };
-    let declared = declared.trim_end_matches(".the-variants");
+    let declared = declared.trim_end_matches(".TheVariants");
     let (file, item) = declared.rsplit_once('.').unwrap_or(("lib", declared));
     let file = file.replace('.', "/");
     Some((
@@ -106,15 +105,15 @@ fn leads(module: &str, name: &str) -> Target {
     }
 }
 
-/// What a written name leads to: brought by itself, or as `x.name` through `use MODULE as x`.
+/// What a written name leads to: brought by itself, perhaps with a field behind it, or as `x.name` through `use MODULE as x`.
 pub fn target(imports: &Imports, name: &str) -> Option<Target> {
-    if let Some(target) = imports.get(name) {
-        return Some(target.clone());
-    }
-    let (alias, inner) = name.split_once('.')?;
-    match imports.get(&format!("{alias}."))? {
-        Target::Kit(module, _) => Some(leads(module, inner)),
-        Target::Item(path, _) => Some(Target::Item(path.clone(), inner.to_string())),
+    let Some((front, inner)) = name.split_once('.') else {
+        return imports.get(name).cloned();
+    };
+    match imports.get(&format!("{front}.")) {
+        Some(Target::Kit(module, _)) => Some(leads(module, inner)),
+        Some(Target::Item(path, _)) => Some(Target::Item(path.clone(), inner.to_string())),
+        None => imports.get(front).cloned(),
     }
 }
 
@@ -341,25 +340,26 @@ mod tests {
 
     const TEXT: &str = "\
 -- A page.
-use lib.Ieee.{Float, add}
-use Rattle·first·specs.specs.Num.{_⊗_, joints}
-use Rattle·sheet.specs.declared.code.Kind.the-variants.{Fixed}
-use Rattle·sheet.specs.declared.code.Kind.{Kind}
+use Rattle.std.specs.Float.Ieee.{Float, add}
+use Rattle.first.specs.Num.{◌⊗◌, joints}
+use Rattle.first.specs.Num as num
+use Rattle.sheet.specs.declared.code.Kind.TheVariants.{Fixed}
+use Rattle.sheet.specs.declared.code.Kind.{Kind}
 
-infixl 6 _⊕_
+infixl 6 ◌⊕◌
 
-abbrev pub _⊕_ : Float → Float → Float
+abbrev pub ◌⊕◌ : Float → Float → Float
 x ⊕ y = add x y
 
 -- of a kind
-unfoldable pub cost : Kind → ℕ → Float
-cost Fixed joints =
-    one ⊗ two joints
+unfoldable pub cost_of : Kind → ℕ → Float
+cost_of Fixed joints =
+    one.x ⊗ num.two joints.sum
 
 module _ (f : A → B)
     (g : B) where
   pub law : (x : A) → f x ≡ g
-  unfolding cost
+  unfolding cost_of
   law x = refl
 
 pub record Pair : Type 0 where
@@ -382,14 +382,14 @@ pub record Pair : Type 0 where
     #[test]
     fn declarations_have_their_lines_and_names() {
         let file = parse(TEXT);
-        let sum = item(&file, "_⊕_");
-        assert_eq!((sum.place, sum.kind), (place(9, 10, 2), Kind::Definition));
+        let sum = item(&file, "◌⊕◌");
+        assert_eq!((sum.place, sum.kind), (place(10, 11, 2), Kind::Definition));
         assert_eq!(listed(&sum.uses), ["Float", "add"]);
-        let cost = item(&file, "cost");
-        assert_eq!(cost.place, place(13, 15, 3));
+        let cost = item(&file, "cost_of");
+        assert_eq!(cost.place, place(14, 16, 3));
         assert_eq!(
             listed(&cost.uses),
-            ["Fixed", "Float", "Kind", "one", "two", "ℕ", "⊗"]
+            ["Fixed", "Float", "Kind", "num.two", "one.x", "ℕ", "⊗"]
         );
         let law = item(&file, "law");
         assert_eq!(law.kind, Kind::Law);
@@ -399,7 +399,7 @@ pub record Pair : Type 0 where
         let pair = item(&file, "Pair");
         assert_eq!(
             (pair.kind, pair.place),
-            (Kind::Definition, place(23, 25, 3))
+            (Kind::Definition, place(24, 26, 3))
         );
         assert_eq!(listed(&pair.uses), ["Float", "Kind"]);
     }
@@ -410,13 +410,17 @@ pub record Pair : Type 0 where
         let item = |path: &str, name: &str| Target::Item(path.to_string(), name.to_string());
         assert_eq!(
             file.imports["⊗"],
-            item("crates/first/specs/Num.antt", "_⊗_")
+            item("crates/first/specs/Num.antt", "◌⊗◌")
         );
+        let two = item("crates/first/specs/Num.antt", "two");
+        assert_eq!(target(&file.imports, "num.two"), Some(two));
+        let joints = item("crates/first/specs/Num.antt", "joints");
+        assert_eq!(target(&file.imports, "joints.sum"), Some(joints));
         assert_eq!(
             file.imports["Fixed"],
             item("crates/sheet/src/code.rt", "Kind")
         );
-        let kit = Target::Kit("lib.Ieee".to_string(), "add".to_string());
+        let kit = Target::Kit("Rattle.std.specs.Float.Ieee".to_string(), "add".to_string());
         assert_eq!(file.imports["add"], kit);
     }
 }

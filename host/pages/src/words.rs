@@ -6,7 +6,7 @@ pub enum Kind {
     Name,
     /// A name in « », which no keyword can be.
     Quoted,
-    /// What stands behind ` .`: a field.
+    /// What stands behind a dot: a field, or a name of a module.
     Field,
     /// A bracket, a comma, a semicolon or the dot that ends the binders of a λ.
     Mark,
@@ -49,21 +49,19 @@ pub fn words(text: &str) -> Vec<Word> {
 fn words_of_line(line: &str) -> Vec<Word> {
     let mut words: Vec<Word> = Vec::new();
     let mut rest = line.trim_start();
-    let mut spaced = true;
     while let Some(first) = rest.chars().next() {
-        let (kind, text, used) = next(rest, first, spaced);
+        let (kind, text, used) = next(rest, first);
         if !text.is_empty() {
             let first = words.is_empty();
             words.push(Word { kind, text, first });
         }
-        spaced = first.is_whitespace() || first == '(';
         rest = &rest[used..];
     }
     words
 }
 
 /// The word at the front of `rest`, and how many bytes it takes; no text for a space.
-fn next(rest: &str, first: char, spaced: bool) -> (Kind, String, usize) {
+fn next(rest: &str, first: char) -> (Kind, String, usize) {
     let name_at = |from: usize| {
         let name = &rest[from..];
         &name[..name.find(ends_name).unwrap_or(name.len())]
@@ -73,19 +71,16 @@ fn next(rest: &str, first: char, spaced: bool) -> (Kind, String, usize) {
         let text = rest['«'.len_utf8()..end].to_string();
         return (Kind::Quoted, text, end + '»'.len_utf8());
     }
-    if first == '.' && spaced {
-        let quoted = rest[1..].starts_with('«');
+    let quoted = rest[first.len_utf8()..].starts_with('«');
+    // The dot of a λ has a space behind it.
+    if first == '.' && (quoted || !rest[1..].starts_with(ends_name) && rest.len() > 1) {
         let from = if quoted { 1 + '«'.len_utf8() } else { 1 };
         let text = name_at(from).to_string();
         let used = from + text.len() + if quoted { '»'.len_utf8() } else { 0 };
         return (Kind::Field, text, used);
     }
     if !ends_name(first) {
-        let mut text = name_at(0);
-        let behind = &rest[text.len()..];
-        if behind.starts_with('.') && behind[1..].chars().next().is_some_and(|c| !ends_name(c)) {
-            text = &rest[..text.len() + 1 + name_at(text.len() + 1).len()];
-        }
+        let text = name_at(0);
         return (Kind::Name, text.to_string(), text.len());
     }
     let text = if first.is_whitespace() {
@@ -111,14 +106,15 @@ mod tests {
             list.iter().map(|(k, t)| (*k, t.to_string())).collect()
         };
         assert_eq!(
-            kinds("f (s .arms .«a_b») = λ x. x ⊕ «x_y»"),
+            kinds("f (g s.arms).«a_b» = λ x. x ⊕ «x_y»"),
             owned(&[
                 (Name, "f"),
                 (Mark, "("),
+                (Name, "g"),
                 (Name, "s"),
                 (Field, "arms"),
-                (Field, "a_b"),
                 (Mark, ")"),
+                (Field, "a_b"),
                 (Name, "="),
                 (Name, "λ"),
                 (Name, "x"),
@@ -128,7 +124,10 @@ mod tests {
                 (Quoted, "x_y"),
             ])
         );
-        assert_eq!(kinds("pairs.sumTo"), owned(&[(Name, "pairs.sumTo")]));
+        assert_eq!(
+            kinds("pairs.sum_to.1"),
+            owned(&[(Name, "pairs"), (Field, "sum_to"), (Field, "1")])
+        );
     }
 
     #[test]

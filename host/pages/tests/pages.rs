@@ -15,21 +15,21 @@ impl Drop for Small {
 }
 
 const FILES: [(&str, &str); 17] = [
-    ("crates.txt", "ground:\nstate_calls: ground\nexports: ground\n"),
+    ("crates.txt", "ground:\nstate_calls: ground\nexports staticlib: ground\n"),
     (
         "crates/ground/src/lib.rt",
-        "// The ground.\nghost use mathlib.Core.Path.{_≡_};\nghost use Rattle·ground·specs.specs.Twice.{twice};\n\n\
-         pub fn double(x: u16) -> u16\n    ensures { λ r. ⌜ r ≡ twice x ⌝ }\n{\n    x + x\n}\n",
+        "#![tactic(auto)]\n// The ground.\nghost use Rattle.std.specs.Prelude.{◌≡◌};\nghost use Rattle.ground.specs.Twice.{twice};\n\n\
+         pub fn double(x: u16) -> u16\n    ensures { result ≡ twice x }\n{\n    x + x\n}\n",
     ),
     ("crates/ground/specs/Lib.antt", "pub mod Twice\npub mod Rows\n"),
     (
         "crates/ground/specs/Twice.antt",
-        "-- Twice a number.\nuse Prim.Native.Nat.{ℕ, _+_}\n\n-- x and x\nunfoldable pub twice : ℕ → ℕ\ntwice x = x + x\n\n\
+        "-- Twice a number.\nuse Rattle.std.specs.Prelude.{ℕ, ◌+◌}\n\n-- x and x\nunfoldable pub twice : ℕ → ℕ\ntwice x = x + x\n\n\
          unfoldable pub unused : ℕ\nunused = twice 1\n\npub law : twice 0 ≡ 0\nlaw = refl\n",
     ),
     (
         "crates/ground/specs/Rows.antt",
-        "use Prim.Native.Nat.{ℕ}\nuse Rattle·ground·specs.specs.Twice.{twice}\n\nabbrev pub row : ℕ → ℕ\nrow n = n\n\n\
+        "use Rattle.std.specs.Prelude.{ℕ}\nuse Rattle.ground.specs.Twice.{twice}\n\nabbrev pub row : ℕ → ℕ\nrow n = n\n\n\
          abbrev pub odd : ℕ\nodd = row 3\n\npub lowest : (x : ℕ) → IsLowest odd (twice x)\nlowest x = refl\n",
     ),
     (
@@ -47,15 +47,15 @@ const FILES: [(&str, &str); 17] = [
     ("crates/state_calls/src/lib.rt", "pub mod state;\nmod inner;\n"),
     (
         "crates/state_calls/src/state.rt",
-        "ghost use mathlib.Core.Path.{_≡_};\nghost use Rattle·ground.specs.Twice.{twice};\n\n// What is kept.\npub struct State {\n    pub kept: u16,\n}\n\n\
-         // Doubles it.\npub fn load(state: State) -> u16\n    ensures number { λ r. ⌜ r ≡ twice (state .kept) ⌝ }\n{\n    ground::double(state.kept)\n}\n",
+        "ghost use Rattle.std.specs.Prelude.{◌≡◌};\nghost use Rattle.ground.specs.Twice.{twice};\n\n// What is kept.\n#[derive(Clone, Copy)]\npub struct State {\n    pub kept: u16,\n}\n\n\
+         // Doubles it.\npub fn load(state: State) -> u16\n    ensures number { result ≡ twice state.kept }\n{\n    ground::double(state.kept)\n}\n",
     ),
     ("crates/state_calls/src/inner.rt", "pub fn hidden() -> u16\n{\n    1\n}\n"),
     ("crates/exports/src/lib.rt", "pub mod arms;\n"),
     (
         "crates/exports/src/arms.rt",
-        "ghost use mathlib.Core.Path.{_≡_};\nghost use Rattle·ground.specs.Twice.{twice};\n\n#[no_mangle]\npub extern \"C\" fn relaxed_ik_load(x: u16) -> u32\n    \
-         ensures { λ r. ⌜ r ≡ twice x ⌝ }\n{\n    ground::double(x) as u32\n}\n",
+        "ghost use Rattle.std.specs.Prelude.{◌≡◌};\nghost use Rattle.ground.specs.Twice.{twice};\n\n#[unsafe(no_mangle)]\npub extern \"C\" fn relaxed_ik_load(x: u16) -> u32\n    \
+         ensures { result ≡ twice x }\n{\n    ground::double(x) as u32\n}\n",
     ),
     (
         "include/relaxed_ik.h",
@@ -156,7 +156,7 @@ fn what_is_written_stands() {
         "{trust}"
     );
     assert!(
-        trust.contains("| `Prim.Native.Nat` | `_+_` `ℕ` |"),
+        trust.contains("| `Rattle.std.specs.Prelude` | `ℕ` `◌+◌` `◌≡◌` |"),
         "{trust}"
     );
     let architecture = small.text("docs/ARCHITECTURE.md");
@@ -179,10 +179,10 @@ fn a_call_has_its_contract_its_numbers_and_its_edits() {
     };
     let load = row("[`load`]");
     for cell in [
-        "[`load`](../crates/state_calls/src/state.rt#L10) | Doubles it. |",
+        "[`load`](../crates/state_calls/src/state.rt#L11) | Doubles it. |",
         "| [0, 3](../crates/ground/specs/Rows.antt#L10) |",
-        "| [number](../crates/state_calls/src/state.rt#L11) |",
-        "| [`State`](../crates/state_calls/src/state.rt#L5), [`twice`](../crates/ground/specs/Twice.antt#L5) |",
+        "| [number](../crates/state_calls/src/state.rt#L12) |",
+        "| [`State`](../crates/state_calls/src/state.rt#L6), [`twice`](../crates/ground/specs/Twice.antt#L5) |",
         "| 2, 5 lines | [declaration](../include/relaxed_ik.h#L2) |",
         "[ground/minus](../crates/ground/must-fail/minus.edit \"nothing but 0\")",
     ] {
@@ -295,7 +295,7 @@ fn the_header_is_held_to_the_theorem() {
 fn a_call_that_asks_something_is_found() {
     let small = Small::new();
     let ensures = "    ensures number";
-    let asks = format!("    requires {{ ⌜ twice (state .kept) ≡ 0 ⌝ }}\n{ensures}");
+    let asks = format!("    requires {{ twice state.kept ≡ 0 }}\n{ensures}");
     small.change("crates/state_calls/src/state.rt", ensures, &asks);
     small.fails("load has a 'requires'", false);
 }
@@ -305,7 +305,7 @@ fn a_new_crate_is_taken_in() {
     let small = Small::new();
     small.put(
         "crates.txt",
-        "ground:\nstate_calls: ground\nexports: ground\nreplay: exports io libc\n",
+        "ground:\nstate_calls: ground\nexports staticlib: ground\nreplay: exports io libc\n",
     );
     small.put("crates/replay/src/main.rt", "// Runs.\nfn main() {\n}\n");
     small.fails("docs/architecture.svg: out of date", true);
@@ -313,6 +313,18 @@ fn a_new_crate_is_taken_in() {
     assert!(small
         .text("docs/TRUST.md")
         .contains("`replay` needs the kit's `libc`, whose C functions have assumed contracts"));
+    small.put(
+        "crates.txt",
+        "ground:\nstate_calls: ground\nexports staticlib: ground\nreplay: exports\n",
+    );
+    small.fails("docs/TRUST.md: out of date", true);
+    assert!(small.text("docs/TRUST.md").contains("No crate needs a C"));
+    let main = "// Runs.\nuse std::io;\nuse std::io::{Print, Read};\nfn main() {\n}\n";
+    small.put("crates/replay/src/main.rt", main);
+    small.fails("docs/TRUST.md: out of date", true);
+    assert!(small
+        .text("docs/TRUST.md")
+        .contains("`replay` needs the kit's `std::io`, whose C functions have assumed contracts"));
 }
 
 #[test]
