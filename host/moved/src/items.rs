@@ -105,14 +105,15 @@ fn proof_text(text: &str) -> String {
     plain(&words::words(&kept.join("\n")))
 }
 
-/// A function's answers go by its name, and so does a proof in one file, as the older language has it; its invariants are a proof beside it.
-fn proof_name(path: &str) -> String {
-    let (folder, file) = path.rsplit_once('/').unwrap_or(("", path));
+/// The name of a function's proof, if that is what stands there and no lemmas. Its answers go by its name, and so does a proof in one file,
+/// as the older language has it; its invariants are a proof beside it.
+fn proof_name(place: &str) -> Option<String> {
+    let (folder, file) = place.strip_prefix("proofs/")?.rsplit_once('/')?;
     let function = folder.rsplit('/').next().unwrap_or(folder);
     match file {
-        "Answers.antt" | "Proof.antt" => function.to_string(),
-        "Invariants.antt" => format!("{function} invariants"),
-        _ => file.to_string(),
+        "Answers.antt" | "Proof.antt" => Some(function.to_string()),
+        "Invariants.antt" => Some(format!("{function} invariants")),
+        _ => None,
     }
 }
 
@@ -146,10 +147,10 @@ fn of_file(place: &str, text: &str) -> Vec<(Kind, String, String)> {
     if place.ends_with("/Lib.antt") {
         return Vec::new();
     }
-    if let Some(proof) = place.strip_prefix("proofs/") {
-        return vec![(Kind::Proof, proof_name(proof), proof_text(text))];
+    if let Some(name) = proof_name(place) {
+        return vec![(Kind::Proof, name, proof_text(text))];
     }
-    if place.starts_with("specs/") {
+    if place.ends_with(".antt") {
         let items = specs::parse(text).items;
         let named = |item: specs::Item| {
             spec_texts(&item)
@@ -257,9 +258,11 @@ mod tests {
             ("proofs/arm/walk/Answers.antt", "walk"),
             ("proofs/arm/walk/Invariants.antt", "walk invariants"),
             ("proofs/walk/Proof.antt", "walk"),
-            ("proofs/Turn.antt", "Turn.antt"),
         ] {
             assert_eq!(texts(path, text), of(name));
         }
+        let law = texts("specs/Turn.antt", text);
+        assert_eq!(law.len(), 2);
+        assert_eq!(texts("proofs/Turn.antt", text), law);
     }
 }

@@ -21,9 +21,10 @@ moved OLD NEW [--list | --texts]
   --list    name each item that did not stay as it was and where it was
   --texts   the same, with the old and the new text of each that changed
 
-A definition is an unfoldable or abbreviated item, a data type or a record of specs/, or a type of src/. A promise is a clause of a
-function's contract, or its signature. A law is an item of specs/ that is no definition: its statement with the parameters of the modules
-around it; its proof is counted by itself. A proof of a function is a file below proofs/. Layout, comments, `use` lines and `pub` make no
+A definition is an unfoldable or abbreviated item, a data type or a record of specs/ or of the lemmas in proofs/, or a type of src/. A
+promise is a clause of a function's contract, or its signature. A law is an item of specs/ or of the lemmas that is no definition: its
+statement with the parameters of the modules around it; its proof is counted by itself. A proof of a function is a file in its folder of
+proofs/. Layout, comments, `use` lines and `pub` make no
 difference, nor does what the language spelled otherwise before the port. What stands in another file or crate, differs in nothing but new
 names of definitions, laws and functions, or is a clause under another name, has moved and counts as stayed.";
 
