@@ -4,7 +4,6 @@ ghost use Rattle.std.specs.Float.{nan};
 ghost use Rattle.lists.specs.Splice.{splice};
 ghost use Rattle.lists.specs.Runs.{runs};
 ghost use Rattle.sheet.specs.Chain.{joint_of};
-ghost use Rattle.lists.specs.Lent.{lent};
 ghost use Rattle.spacetime.specs.Floats.{flat};
 ghost use Rattle.spacetime.specs.Walk.{Sheet, poses};
 ghost use Rattle.gradient.specs.Slopes.{step};

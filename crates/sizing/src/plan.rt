@@ -1,6 +1,5 @@
 // What sizing answers: the lengths with which the frame lists and the record can be reserved, or a refusal's number.
 ghost use Rattle.std.specs.Prelude.{◌≡◌};
-ghost use Rattle.lists.specs.Lent.{lent};
 ghost use Rattle.calls.specs.Arms.{Accepted};
 ghost use Rattle.sizing.specs.Sizing.{plan_of};
 

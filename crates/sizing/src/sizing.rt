@@ -1,6 +1,5 @@
 // From sizes, codes and floats alone: no limits, no state, no walk.
 ghost use Rattle.std.specs.Prelude.{◌≡◌};
-ghost use Rattle.lists.specs.Lent.{lent};
 ghost use Rattle.sizing.specs.Sizing.{sizing_of};
 
 use crate::plan;

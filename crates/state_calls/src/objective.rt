@@ -1,7 +1,6 @@
 // The objective and its gradients; `strict` picks the list for goals without tolerance.
 ghost use Rattle.std.specs.Prelude.{◌≡◌, length};
 ghost use Rattle.lists.specs.Splice.{splice};
-ghost use Rattle.lists.specs.Lent.{lent};
 ghost use Rattle.gradient.specs.Gradient.{slopes_of};
 ghost use Rattle.calls.specs.Arms.{if_taken};
 ghost use Rattle.calls.specs.Answer.{number_of, answer_value, value_if, answer_of};

@@ -1,6 +1,5 @@
 // The gradient on one block, which is raised and put back joint after joint, and its record; `strict` picks the list for goals without tolerance.
 ghost use Rattle.std.specs.Prelude.{◌≡◌, length};
-ghost use Rattle.lists.specs.Lent.{lent};
 ghost use Rattle.calls.specs.Answer.{number_of, answer_value, value_if, answer_of};
 ghost use Rattle.calls.specs.AcceptedTask.{FrontIfTaken};
 ghost use Rattle.state_calls.specs.StoredTask.{Arrays, value_stored, gradient_stored};

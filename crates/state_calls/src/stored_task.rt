@@ -1,6 +1,5 @@
 // The objective and its gradients on stored goals and history: 20, 21 and 22 before the call's own numbers.
 ghost use Rattle.std.specs.Prelude.{◌≡◌, length};
-ghost use Rattle.lists.specs.Lent.{lent};
 ghost use Rattle.task.specs.Task.{task_length};
 ghost use Rattle.task.specs.Laid.{laid};
 ghost use Rattle.gradient.specs.Gradient.{slopes_of};
