@@ -4,7 +4,6 @@ ghost use Rattle.lists.specs.Splice.{splice};
 ghost use Rattle.lent_bytes.specs.Lent.{bytes_of};
 ghost use Rattle.refusals.specs.Lengths.{plan_length};
 ghost use Rattle.refusals.specs.Refusal.{room_refusal};
-ghost use Rattle.lists.specs.Lent.{lent};
 ghost use Rattle.lent_bytes.specs.SheetLists.{sheet_of, room_of, number_room_of};
 ghost use Rattle.sizing.specs.Sizing.{plan_list, Small};
 ghost use Rattle.arm_bytes.specs.ArmCalls.{sizing_number, set_goals_number, set_tool_number, frames_number, pose_number, update_number, reset_number, manipulability_number};

@@ -1,6 +1,5 @@
 // Refusal 11 of the tools that a call is lent.
 ghost use Rattle.std.specs.Prelude.{◌≡◌};
-ghost use Rattle.lists.specs.Lent.{lent};
 ghost use Rattle.refusals.specs.Refusal.{chains_of, tools_refusal};
 
 use refusals::tools;

@@ -1,6 +1,5 @@
 // The gradient on one block, which is raised and put back joint after joint, and its record.
 ghost use Rattle.std.specs.Prelude.{◌≡◌, ◌≤◌, length};
-ghost use Rattle.lists.specs.Lent.{lent};
 ghost use Rattle.task.specs.Task.{given_in};
 ghost use Rattle.gradient.specs.Gradient.{value_at, gradient_of};
 ghost use Rattle.calls.specs.Arms.{Accepted};

@@ -1,6 +1,5 @@
 // Both gradients on two blocks: joints that are read, and a scratch block.
 ghost use Rattle.std.specs.Prelude.{◌≡◌, length};
-ghost use Rattle.lists.specs.Lent.{lent};
 ghost use Rattle.task.specs.Task.{given_in};
 ghost use Rattle.gradient.specs.Gradient.{value_at, slopes_of};
 ghost use Rattle.calls.specs.Answer.{number_of, answer_value, value_if, answer_of};

@@ -1,6 +1,5 @@
 // The objective.
 ghost use Rattle.std.specs.Prelude.{◌≡◌};
-ghost use Rattle.lists.specs.Lent.{lent};
 ghost use Rattle.task.specs.Task.{given_in};
 ghost use Rattle.refusals.specs.Refusal.{block_refusal};
 ghost use Rattle.gradient.specs.Gradient.{value_at};

@@ -1,6 +1,5 @@
 // The tools that a call is lent, one list a chain, decoded in one place.
 ghost use Rattle.std.specs.Prelude.{◌≡◌};
-ghost use Rattle.lists.specs.Lent.{lent};
 ghost use Rattle.lent_bytes.specs.ToolLists.{seven_from, tool_from, tools_in};
 
 use crate::lent;

@@ -4,7 +4,6 @@ ghost use Rattle.lists.specs.Splice.{splice};
 ghost use Rattle.refusals.specs.Lowest.{first_of};
 ghost use Rattle.refusals.specs.Refusal.{chains_of, weights_refusal, tools_refusal};
 ghost use Rattle.lent_bytes.specs.Lent.{room_in, bytes_of};
-ghost use Rattle.lists.specs.Lent.{lent};
 ghost use Rattle.lent_bytes.specs.SheetLists.{sheet_with, sheet_of, room_of};
 ghost use Rattle.arm_bytes.specs.ArmCalls.{output_of};
 ghost use Rattle.objective_bytes.specs.ObjectiveCalls.{task_with, task_of, task_number, objective_number, slopes_number, value_in, objective_value, slopes_in};

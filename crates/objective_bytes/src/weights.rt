@@ -1,5 +1,4 @@
 // The weights that a call on the objective is lent.
-ghost use Rattle.lists.specs.Lent.{lent};
 ghost use Rattle.lent_bytes.specs.Lent.{Front};
 ghost use Rattle.objective_bytes.specs.ObjectiveCalls.{in_force_from};
 

@@ -3,7 +3,6 @@ ghost use Rattle.std.specs.Prelude.{◌≡◌, ◌+◌, ◌*◌, ◌≤◌, ◌<
 ghost use Rattle.lists.specs.Splice.{splice};
 ghost use Rattle.lists.specs.Runs.{runs};
 ghost use Rattle.sheet.specs.Chain.{total};
-ghost use Rattle.lists.specs.Lent.{lent};
 ghost use Rattle.task.specs.Task.{given_of, given_in};
 ghost use Rattle.spacetime.specs.Walk.{Sheet, frames_of};
 ghost use Rattle.manipulability.specs.View.{view_of};

@@ -2,7 +2,6 @@
 ghost use Rattle.std.specs.Prelude.{◌≡◌, [], ◌∷◌, ◌*◌, ◌≤◌, length, take};
 ghost use Rattle.lists.specs.Splice.{splice};
 ghost use Rattle.lent_bytes.specs.Lent.{room_in, number_room_in, bytes_of, bytes_of_numbers};
-ghost use Rattle.lists.specs.Lent.{lent};
 ghost use Rattle.lent_bytes.specs.SheetLists.{sheet_with, sheet_of, room_of, number_room_of};
 ghost use Rattle.arm_bytes.specs.ArmCalls.{output_of};
 ghost use Rattle.objective_bytes.specs.ObjectiveCalls.{task_with, task_of, value_in, objective_value, gradient_slopes};
