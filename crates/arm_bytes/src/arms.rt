@@ -8,21 +8,21 @@ ghost use Rattle.arm_bytes.specs.ArmCalls.{manipulability_number, frame_position
 ghost use Rattle.arm_bytes.specs.ArmCalls.{manipulability_value, output_of, numbers_output_of};
 
 use crate::arm_lists;
-use lent_bytes::{lent, picks, sheet_lists, tool_lists};
+use lent_bytes::sheet_lists::Sheet;
+use lent_bytes::{picks, task_lists, tool_lists};
+use refusals::refusal::number_of;
 
 pub fn load(sizes: &[u8], codes: &[u8], floats: &[u8], limits: &[u8]) -> u32
     ensures { result ≡ load_number (sheet_in sizes codes floats limits) }
 {
-    let mut s = [0u16; 5];
-    let mut c = [0u16; 64];
-    let mut f = [0.0; 448];
-    let mut l = [0.0; 32];
-    let n = sheet_lists::decode(sizes, codes, floats, limits, &mut s, &mut c, &mut f, &mut l);
-    let ns = n.sizes;
-    let nc = n.codes;
-    let nf = n.floats;
-    let nl = n.limits;
-    refusals::load::load_refusal(&s[..ns], &c[..nc], &f[..nf], &l[..nl]) as u32
+    let mut sheet = Sheet::empty();
+    sheet.decode(sizes, codes, floats, limits);
+    number_of(refusals::load::load_refusal(
+        &sheet.sizes,
+        &sheet.codes,
+        &sheet.floats,
+        &sheet.limits,
+    )) as u32
 }
 
 // No limits are lent, so none are decoded.
@@ -30,42 +30,25 @@ pub fn sizing(sizes: &[u8], codes: &[u8], floats: &[u8], plan: &mut [u8], strict
     ensures number { result ≡ sizing_number (sizes_in sizes) (codes_in codes) (link_floats_in floats) (number_room_of plan) }
     ensures plan { plan.new ≡ numbers_output_of result plan (plan_numbers (picks_from strict) (sizes_in sizes) (codes_in codes)) }
 {
-    let mut s = [0u16; 5];
-    let mut c = [0u16; 64];
-    let mut f = [0.0; 448];
-    let mut l = [0.0; 32];
-    let n = sheet_lists::decode(
-        sizes,
-        codes,
-        floats,
-        &floats[0..0],
-        &mut s,
-        &mut c,
-        &mut f,
-        &mut l,
-    );
-    let ns = n.sizes;
-    let nc = n.codes;
-    let nf = n.floats;
+    let mut sheet = Sheet::empty();
+    sheet.decode(sizes, codes, floats, &floats[0..0]);
     let picks = picks::decode(strict);
-    arm_lists::sizing(&s[..ns], &c[..nc], &f[..nf], picks, plan) as u32
+    number_of(arm_lists::sizing(&sheet.sizes, &sheet.codes, &sheet.floats, picks, plan)) as u32
 }
 
 pub fn set_goals(sizes: &[u8], codes: &[u8], floats: &[u8], limits: &[u8], goals: &[u8]) -> u32
     ensures { result ≡ set_goals_number (sheet_in sizes codes floats limits) (goals_in goals) }
 {
-    let mut s = [0u16; 5];
-    let mut c = [0u16; 64];
-    let mut f = [0.0; 448];
-    let mut l = [0.0; 32];
-    let mut g = [0.0; 52];
-    let n = sheet_lists::decode(sizes, codes, floats, limits, &mut s, &mut c, &mut f, &mut l);
-    let ns = n.sizes;
-    let nc = n.codes;
-    let nf = n.floats;
-    let nl = n.limits;
-    let ng = lent::floats(goals, &mut g);
-    arm_lists::set_goals(&s[..ns], &c[..nc], &f[..nf], &l[..nl], &g[..ng]) as u32
+    let mut sheet = Sheet::empty();
+    sheet.decode(sizes, codes, floats, limits);
+    let goals = task_lists::goals(goals);
+    number_of(arm_lists::set_goals(
+        &sheet.sizes,
+        &sheet.codes,
+        &sheet.floats,
+        &sheet.limits,
+        &goals,
+    )) as u32
 }
 
 // Looks at a tool for a chain of the sheet.
@@ -79,25 +62,17 @@ pub fn set_tool(
 ) -> u32
     ensures { result ≡ set_tool_number (sheet_in sizes codes floats limits) (tool_floats_in tool) chain }
 {
-    let mut s = [0u16; 5];
-    let mut c = [0u16; 64];
-    let mut f = [0.0; 448];
-    let mut l = [0.0; 32];
-    let mut t = [0.0; 7];
-    let n = sheet_lists::decode(sizes, codes, floats, limits, &mut s, &mut c, &mut f, &mut l);
-    let ns = n.sizes;
-    let nc = n.codes;
-    let nf = n.floats;
-    let nl = n.limits;
-    let nt = lent::floats(tool, &mut t);
-    arm_lists::set_tool(
-        &s[..ns],
-        &c[..nc],
-        &f[..nf],
-        &l[..nl],
-        &t[..nt],
+    let mut sheet = Sheet::empty();
+    sheet.decode(sizes, codes, floats, limits);
+    let tool = tool_lists::floats(tool);
+    number_of(arm_lists::set_tool(
+        &sheet.sizes,
+        &sheet.codes,
+        &sheet.floats,
+        &sheet.limits,
+        &tool,
         chain as usize,
-    ) as u32
+    )) as u32
 }
 
 pub fn frames(
@@ -113,26 +88,18 @@ pub fn frames(
     ensures positions { positions.new ≡ output_of result positions (frame_positions (sheet_in sizes codes floats limits) (block_in joints)) }
     ensures rotations { rotations.new ≡ output_of result rotations (frame_rotations (sheet_in sizes codes floats limits) (block_in joints)) }
 {
-    let mut s = [0u16; 5];
-    let mut c = [0u16; 64];
-    let mut f = [0.0; 448];
-    let mut l = [0.0; 32];
-    let mut x = [0.0; 16];
-    let n = sheet_lists::decode(sizes, codes, floats, limits, &mut s, &mut c, &mut f, &mut l);
-    let ns = n.sizes;
-    let nc = n.codes;
-    let nf = n.floats;
-    let nl = n.limits;
-    let nx = lent::floats(joints, &mut x);
-    arm_lists::frames(
-        &s[..ns],
-        &c[..nc],
-        &f[..nf],
-        &l[..nl],
-        &x[..nx],
+    let mut sheet = Sheet::empty();
+    sheet.decode(sizes, codes, floats, limits);
+    let joints = task_lists::joints(joints);
+    number_of(arm_lists::frames(
+        &sheet.sizes,
+        &sheet.codes,
+        &sheet.floats,
+        &sheet.limits,
+        &joints,
         positions,
         rotations,
-    ) as u32
+    )) as u32
 }
 
 pub fn pose(
@@ -150,19 +117,19 @@ pub fn pose(
     ensures number { result ≡ pose_number (sheet_in sizes codes floats limits) (tools_in tool0 tool1 tool2 tool3) (block_in joints) (room_of ends) }
     ensures ends { ends.new ≡ output_of result ends (end_poses (sheet_in sizes codes floats limits) (tools_in tool0 tool1 tool2 tool3) (block_in joints)) }
 {
-    let mut s = [0u16; 5];
-    let mut c = [0u16; 64];
-    let mut f = [0.0; 448];
-    let mut l = [0.0; 32];
-    let mut x = [0.0; 16];
-    let n = sheet_lists::decode(sizes, codes, floats, limits, &mut s, &mut c, &mut f, &mut l);
-    let ns = n.sizes;
-    let nc = n.codes;
-    let nf = n.floats;
-    let nl = n.limits;
-    let nx = lent::floats(joints, &mut x);
-    let t = tool_lists::decode(tool0, tool1, tool2, tool3);
-    arm_lists::pose(&s[..ns], &c[..nc], &f[..nf], &l[..nl], &t, &x[..nx], ends) as u32
+    let mut sheet = Sheet::empty();
+    sheet.decode(sizes, codes, floats, limits);
+    let joints = task_lists::joints(joints);
+    let tools = tool_lists::decode(tool0, tool1, tool2, tool3);
+    number_of(arm_lists::pose(
+        &sheet.sizes,
+        &sheet.codes,
+        &sheet.floats,
+        &sheet.limits,
+        &tools,
+        &joints,
+        ends,
+    )) as u32
 }
 
 pub fn reset(
@@ -182,28 +149,20 @@ pub fn reset(
     ensures history { history.new ≡ output_of result history (reset_blocks (block_in joints)) }
     ensures ends { ends.new ≡ output_of result ends (end_poses (sheet_in sizes codes floats limits) (tools_in tool0 tool1 tool2 tool3) (block_in joints)) }
 {
-    let mut s = [0u16; 5];
-    let mut c = [0u16; 64];
-    let mut f = [0.0; 448];
-    let mut l = [0.0; 32];
-    let mut x = [0.0; 16];
-    let n = sheet_lists::decode(sizes, codes, floats, limits, &mut s, &mut c, &mut f, &mut l);
-    let ns = n.sizes;
-    let nc = n.codes;
-    let nf = n.floats;
-    let nl = n.limits;
-    let nx = lent::floats(joints, &mut x);
-    let t = tool_lists::decode(tool0, tool1, tool2, tool3);
-    arm_lists::reset(
-        &s[..ns],
-        &c[..nc],
-        &f[..nf],
-        &l[..nl],
-        &t,
-        &x[..nx],
+    let mut sheet = Sheet::empty();
+    sheet.decode(sizes, codes, floats, limits);
+    let joints = task_lists::joints(joints);
+    let tools = tool_lists::decode(tool0, tool1, tool2, tool3);
+    number_of(arm_lists::reset(
+        &sheet.sizes,
+        &sheet.codes,
+        &sheet.floats,
+        &sheet.limits,
+        &tools,
+        &joints,
         history,
         ends,
-    ) as u32
+    )) as u32
 }
 
 pub fn update(
@@ -218,28 +177,19 @@ pub fn update(
     ensures number { result ≡ update_number (sheet_in sizes codes floats limits) (history_in history) (block_in joints) (room_of new_history) }
     ensures new_history { new_history.new ≡ output_of result new_history (updated_blocks (history_in history) (block_in joints)) }
 {
-    let mut s = [0u16; 5];
-    let mut c = [0u16; 64];
-    let mut f = [0.0; 448];
-    let mut l = [0.0; 32];
-    let mut h = [0.0; 64];
-    let mut x = [0.0; 16];
-    let n = sheet_lists::decode(sizes, codes, floats, limits, &mut s, &mut c, &mut f, &mut l);
-    let ns = n.sizes;
-    let nc = n.codes;
-    let nf = n.floats;
-    let nl = n.limits;
-    let nh = lent::floats(history, &mut h);
-    let nx = lent::floats(joints, &mut x);
-    arm_lists::update(
-        &s[..ns],
-        &c[..nc],
-        &f[..nf],
-        &l[..nl],
-        &h[..nh],
-        &x[..nx],
+    let mut sheet = Sheet::empty();
+    sheet.decode(sizes, codes, floats, limits);
+    let history = task_lists::history(history);
+    let joints = task_lists::joints(joints);
+    number_of(arm_lists::update(
+        &sheet.sizes,
+        &sheet.codes,
+        &sheet.floats,
+        &sheet.limits,
+        &history,
+        &joints,
         new_history,
-    ) as u32
+    )) as u32
 }
 
 pub fn manipulability(
@@ -253,16 +203,15 @@ pub fn manipulability(
     ensures number { result ≡ manipulability_number (sheet_in sizes codes floats limits) (block_in joints) (room_of value) }
     ensures value { value.new ≡ output_of result value (manipulability_value (sheet_in sizes codes floats limits) (block_in joints)) }
 {
-    let mut s = [0u16; 5];
-    let mut c = [0u16; 64];
-    let mut f = [0.0; 448];
-    let mut l = [0.0; 32];
-    let mut x = [0.0; 16];
-    let n = sheet_lists::decode(sizes, codes, floats, limits, &mut s, &mut c, &mut f, &mut l);
-    let ns = n.sizes;
-    let nc = n.codes;
-    let nf = n.floats;
-    let nl = n.limits;
-    let nx = lent::floats(joints, &mut x);
-    arm_lists::manipulability(&s[..ns], &c[..nc], &f[..nf], &l[..nl], &x[..nx], value) as u32
+    let mut sheet = Sheet::empty();
+    sheet.decode(sizes, codes, floats, limits);
+    let joints = task_lists::joints(joints);
+    number_of(arm_lists::manipulability(
+        &sheet.sizes,
+        &sheet.codes,
+        &sheet.floats,
+        &sheet.limits,
+        &joints,
+        value,
+    )) as u32
 }

@@ -70,3 +70,6 @@ module _ (sizes cs : List ℕ) (task gs : List Float) (whole : length task ≡ t
 
   pub load-task : (limits : List Float) → load_refusal sizes cs gs limits ≡ 0 → AcceptedTask (links_of sizes) cs task gs
   load-task limits e = shape-task (first-none _ _ (sym (load-first sizes cs gs limits) ∙ e)).0
+
+-- what an accepted call on two blocks knows
+pub ruleset tasks = (ready_of, slopes-passed)

@@ -1,31 +1,27 @@
--- The answer of a call that gives one float: the paper's number and value for each of its cases.
-use Rattle.std.specs.Prelude.{◌≡◌, refl, Bool, true, false, cond, ℕ, eqb, Float}
+-- The answer of a call that gives one float: the value, and NaN for a refusal. Its number is `number_of`.
+use Rattle.std.specs.Prelude.{◌≡◌, refl, Bool, true, false, cond, ℕ, eqb, Float, Result, Ok, Err}
 use Rattle.std.specs.Float.{nan}
-use Rattle.std.proofs.Common.{eq-eqb, ne_eqb}
-use Rattle.calls.specs.declared.answer.Answer.{Answer}
-use Rattle.calls.specs.declared.answer.Answer.TheVariants.{Value, Refused}
-
--- the number that the caller gets: 0 with a value
-abbrev pub number_of : Answer → ℕ
-number_of (Value v) = 0
-number_of (Refused n) = n
+use Rattle.std.proofs.Common.{sym, ap, ◌∙◌, eq-eqb, ne_eqb, arith}
+use Rattle.refusals.specs.declared.refusal.Refusal.{Refusal}
+pub use Rattle.refusals.specs.Number.{number_of}
+use Rattle.refusals.specs.Number.{paper_number, refusal_of, refusal-of-number, paper_number-some}
 
 -- the value, NaN for a refusal
-abbrev pub answer_value : Answer → Float
-answer_value (Value v) = v
-answer_value (Refused n) = nan
+abbrev pub answer_value : Result Float Refusal → Float
+answer_value (Ok v) = v
+answer_value (Err e) = nan
 
 -- v, where number is 0
 unfoldable pub value_if : ℕ → Float → Float
 value_if number v = cond (eqb number 0) v nan
 
-abbrev pub answer_if : Bool → Answer → Answer → Answer
+abbrev pub answer_if : Bool → Result Float Refusal → Result Float Refusal → Result Float Refusal
 answer_if true a b = a
 answer_if false a b = b
 
--- the case that a number and a value make: a refusal has a number that is not 0
-unfoldable pub answer_of : ℕ → Float → Answer
-answer_of number v = answer_if (eqb number 0) (Value v) (Refused number)
+-- the answer that a number and a value make: a refusal has a number that is not 0
+unfoldable pub answer_of : ℕ → Float → Result Float Refusal
+answer_of number v = answer_if (eqb number 0) (Ok v) (Err (refusal_of number))
 
 -- ---- laws
 pub value_taken : (n : ℕ) (v : Float) → n ≡ 0 → value_if n v ≡ v
@@ -36,10 +32,15 @@ pub value-refused : (n : ℕ) (v : Float) → (n ≡ 0 → ⊥) → value_if n v
 unfolding value_if
 value-refused n v h = rw (ne_eqb n 0 h)
 
-pub answer-taken : (v : Float) → answer_of 0 v ≡ Value v
+pub answer-taken : (v : Float) → answer_of 0 v ≡ Ok v
 unfolding answer_of
 answer-taken v = refl
 
-pub answer-refused : (n : ℕ) (v : Float) → (n ≡ 0 → ⊥) → answer_of n v ≡ Refused n
+pub answer-refused : (n : ℕ) (v : Float) → (n ≡ 0 → ⊥) → answer_of n v ≡ Err (refusal_of n)
 unfolding answer_of
 answer-refused n v h = rw (ne_eqb n 0 h)
+
+-- an answer is the one that its number and its value make: they say all of it
+pub answer-is : (r : Result Float Refusal) → r ≡ answer_of (number_of r) (answer_value r)
+answer-is (Ok v) = sym (answer-taken v)
+answer-is (Err e) = sym (answer-refused (paper_number e) nan (λ z. omega (arith, paper_number-some e, z)) ∙ ap Err (refusal-of-number e))

@@ -9,7 +9,7 @@ use Rattle.refusals.specs.Refusal.{block_refusal, room_refusal}
 use Rattle.refusals.specs.Passed.{block-passed, room-passed}
 use Rattle.one_block.specs.Record.{record_joints, record_links, record_poses, entries_of, Room}
 use Rattle.one_block.specs.Laws.{below-most}
-use Rattle.calls.specs.AcceptedTask.{FrontIfTaken}
+use Rattle.calls.specs.AcceptedTask.{FrontIfTaken, ready_of}
 
 -- a record of so many entries into lists of so many joints, links and floats of poses: 9
 unfoldable pub record_refusal : ℕ → ℕ → ℕ → ℕ → ℕ
@@ -47,3 +47,6 @@ one-block-passed ns cs x slopes rj rl rp e =
 pub entries-most : (ns cs : List ℕ) → total ns ≡ length cs → length cs ≤ 64 → entries_of ns cs ≤ 4160
 unfolding entries_of
 entries-most ns cs w h = omega (arith, below-most ns cs (length cs) (omega arith) (omega arith))
+
+-- what an accepted call on one block knows
+pub ruleset tasks = (ready_of, one-block-passed)

@@ -3,25 +3,32 @@ ghost use Rattle.std.specs.Prelude.{◌≡◌, ◌≤◌, length};
 ghost use Rattle.task.specs.Task.{given_in};
 ghost use Rattle.gradient.specs.Gradient.{value_at, gradient_of};
 ghost use Rattle.calls.specs.Arms.{Accepted};
-ghost use Rattle.calls.specs.Answer.{number_of, answer_value, value_if, answer_of};
+ghost use Rattle.refusals.specs.Number.{number_of};
+ghost use Rattle.calls.specs.Answer.{answer_value, value_if};
 ghost use Rattle.calls.specs.AcceptedTask.{AcceptedTask, FrontIfTaken};
 ghost use Rattle.calls.specs.OneBlock.{record_refusal, one_block_refusal, RecordIfTaken};
 
-use crate::answer::Answer;
 use one_block::grad;
+use refusals::refusal::Refusal;
 use refusals::{lengths, lent};
 use task::picks::Picks;
 
-pub fn record_refusal(entries: usize, joints: usize, links: usize, poses: usize) -> u16
+#[tactic(auto, unfolding(refusals::specs::Lowest::first_of, crate::specs::OneBlock::record_refusal))]
+pub fn record_refusal(
+    entries: usize,
+    joints: usize,
+    links: usize,
+    poses: usize,
+) -> Result<(), Refusal>
     requires { entries ≤ 4160 }
-    ensures { result ≡ record_refusal entries joints links poses }
+    ensures { number_of result ≡ record_refusal entries joints links poses }
 {
-    let first = lent::room_refusal(entries, joints);
-    let second = lent::room_refusal(entries, links);
-    let third = lent::room_refusal(lengths::record_poses_length(entries), poses);
-    lent::first_of(first, lent::first_of(second, third))
+    lent::room_refusal(entries, joints)?;
+    lent::room_refusal(entries, links)?;
+    lent::room_refusal(lengths::record_poses_length(entries), poses)
 }
 
+#[tactic(auto, unfolding(refusals::specs::Lowest::first_of, crate::specs::OneBlock::one_block_refusal))]
 fn one_block_refusal(
     counts: &[u16],
     codes: &[u16],
@@ -31,18 +38,18 @@ fn one_block_refusal(
     record_joints: usize,
     record_links: usize,
     record_poses: usize,
-) -> u16
+) -> Result<(), Refusal>
     requires { Accepted counts.now codes.now floats.now }
-    ensures { result ≡ one_block_refusal counts.now codes.now block.now slopes record_joints record_links record_poses }
+    ensures { number_of result ≡ one_block_refusal counts.now codes.now block.now slopes record_joints record_links record_poses }
 {
-    let seven = lent::block_refusal(codes, block);
-    let room = lent::room_refusal(lengths::block_length(codes), slopes);
+    lent::block_refusal(codes, block)?;
+    lent::room_refusal(lengths::block_length(codes), slopes)?;
     let entries = grad::entries(counts, codes);
-    let record = record_refusal(entries, record_joints, record_links, record_poses);
-    lent::first_of(seven, lent::first_of(room, record))
+    record_refusal(entries, record_joints, record_links, record_poses)
 }
 
 // Each objective's slope by a step of 1e-7. The block ends as it came, refused or not.
+#[tactic(auto, using(crate::specs::OneBlock::tasks), unfolding(crate::specs::Answer::value_if, crate::specs::Arms::if_taken))]
 pub fn gradient_one_block(
     counts: &[u16],
     codes: &[u16],
@@ -54,15 +61,15 @@ pub fn gradient_one_block(
     record_joints: &mut [u16],
     record_links: &mut [u16],
     record_poses: &mut [f64],
-) -> Answer
+) -> Result<f64, Refusal>
     requires { AcceptedTask counts.now codes.now task.now floats.now }
     ensures number { number_of result ≡ one_block_refusal counts.now codes.now block.old (length slopes.old) (length record_joints.old) (length record_links.old) (length record_poses.old) }
-    ensures value { (answer_value result ≡ value_if (number_of result) (value_at (given_in counts codes task picks) floats.now block.old)) × (result ≡ answer_of (number_of result) (answer_value result)) }
+    ensures value { answer_value result ≡ value_if (number_of result) (value_at (given_in counts codes task picks) floats.now block.old) }
     ensures block { block.new ≡ block.old }
     ensures slopes { FrontIfTaken (number_of result) slopes (gradient_of (given_in counts codes task picks) floats.now block.old) }
     ensures record_written { RecordIfTaken (number_of result) record_joints record_links record_poses counts.now codes.now floats.now block.old }
 {
-    let number = one_block_refusal(
+    one_block_refusal(
         counts,
         codes,
         floats,
@@ -71,10 +78,7 @@ pub fn gradient_one_block(
         record_joints.len(),
         record_links.len(),
         record_poses.len(),
-    );
-    if number != 0 {
-        return Answer::Refused(number);
-    }
+    )?;
     let v = grad::gradient(
         counts,
         codes,
@@ -87,5 +91,5 @@ pub fn gradient_one_block(
         record_links,
         record_poses,
     );
-    Answer::Value(v)
+    Ok(v)
 }

@@ -2,26 +2,33 @@
 ghost use Rattle.std.specs.Prelude.{◌≡◌, length};
 ghost use Rattle.task.specs.Task.{given_in};
 ghost use Rattle.gradient.specs.Gradient.{value_at, slopes_of};
-ghost use Rattle.calls.specs.Answer.{number_of, answer_value, value_if, answer_of};
+ghost use Rattle.refusals.specs.Number.{number_of};
+ghost use Rattle.calls.specs.Answer.{answer_value, value_if};
 ghost use Rattle.calls.specs.AcceptedTask.{AcceptedTask, slopes_refusal, FrontIfTaken};
 
-use crate::answer::Answer;
 use gradient::gradient as two_blocks;
 use gradient::slopes::Rule;
+use refusals::refusal::Refusal;
 use refusals::{lengths, lent};
 use task::picks::Picks;
 
-fn slopes_refusal(codes: &[u16], joints: &[f64], scratch: usize, slopes: usize) -> u16
-    ensures { result ≡ slopes_refusal codes.now joints.now scratch slopes }
+#[tactic(auto, unfolding(refusals::specs::Lowest::first_of, crate::specs::AcceptedTask::slopes_refusal))]
+fn slopes_refusal(
+    codes: &[u16],
+    joints: &[f64],
+    scratch: usize,
+    slopes: usize,
+) -> Result<(), Refusal>
+    ensures { number_of result ≡ slopes_refusal codes.now joints.now scratch slopes }
 {
     let n = lengths::block_length(codes);
-    let seven = lent::block_refusal(codes, joints);
-    let first = lent::room_refusal(n, scratch);
-    let second = lent::room_refusal(n, slopes);
-    lent::first_of(seven, lent::first_of(first, second))
+    lent::block_refusal(codes, joints)?;
+    lent::room_refusal(n, scratch)?;
+    lent::room_refusal(n, slopes)
 }
 
 // The slopes by the rule: `gradient`, or `gradient_finite_diff`.
+#[tactic(auto, using(crate::specs::AcceptedTask::tasks), unfolding(crate::specs::Answer::value_if, crate::specs::Arms::if_taken))]
 pub fn gradient(
     rule: Rule,
     counts: &[u16],
@@ -32,20 +39,16 @@ pub fn gradient(
     joints: &[f64],
     scratch: &mut [f64],
     slopes: &mut [f64],
-) -> Answer
+) -> Result<f64, Refusal>
     requires { AcceptedTask counts.now codes.now task.now floats.now }
     ensures number { number_of result ≡ slopes_refusal codes.now joints.now (length scratch.old) (length slopes.old) }
     ensures value { answer_value result ≡ value_if (number_of result) (value_at (given_in counts codes task picks) floats.now joints.now) }
-    ensures case { result ≡ answer_of (number_of result) (answer_value result) }
     ensures scratch { FrontIfTaken (number_of result) scratch joints.now }
     ensures slopes { FrontIfTaken (number_of result) slopes (slopes_of rule (given_in counts codes task picks) floats.now joints.now) }
 {
-    let number = slopes_refusal(codes, joints, scratch.len(), slopes.len());
-    if number != 0 {
-        return Answer::Refused(number);
-    }
+    slopes_refusal(codes, joints, scratch.len(), slopes.len())?;
     let v = two_blocks::gradient(
         rule, counts, codes, floats, task, picks, joints, scratch, slopes,
     );
-    Answer::Value(v)
+    Ok(v)
 }

@@ -1,5 +1,5 @@
 -- The cases that document 01 marks P, and some of its refusals, each computed from the definitions; what sizing answers, which weights and tools are taken, what a strict goal costs, where a telescoping joint moves and how far a joint turns among them.
-use Rattle.std.specs.Prelude.{◌≡◌, refl, true, false, List, [], ◌∷◌, ◌++◌, map, ℕ, zero, suc, ◌*◌, negsuc, Float, length, replicate}
+use Rattle.std.specs.Prelude.{◌≡◌, refl, true, false, List, [], ◌∷◌, ◌++◌, map, ℕ, zero, suc, ◌*◌, negsuc, Float, length, replicate, Ok, Err}
 use Rattle.std.specs.Float.{nan, inf, fin, binary64}
 use Rattle.std.specs.Float.Ieee.{add, sub, mul, div, neg, eq, ne, lt, le, of_int, of_bits}
 use Rattle.lists.specs.Runs.{runs}
@@ -37,9 +37,10 @@ use Rattle.objective_master.specs.Objective.{MatchEEPosiDoF, MatchEERotaDoF, Mat
 use Rattle.objective_master.specs.Weights.{kind_number, weight_of}
 use Rattle.objective_master.specs.Objective.{goal_width, goal_objectives, limit_objective, motion_objectives, pair_objective, picked_list, objectives}
 use Rattle.objective_master.specs.Strict.{min_of, negative_of, distance_from, angle_from, pos_goals_loss, quat_goals_loss}
-use Rattle.sizing.specs.declared.plan.Sizing.TheVariants.{Planned, Refused}
 use Rattle.sizing.specs.Sizing.{plan_of, planned_if, sizing_of}
 use Rattle.one_block.specs.Record.{copy_of, record_of, again_of, joint_entry, link_entry, pose_entry, record_joints, record_links, record_poses, again_at, again_below, entries_of}
+use Rattle.refusals.specs.declared.refusal.Refusal.TheVariants.{Joints}
+use Rattle.refusals.specs.Number.{refusal_of}
 use Rattle.refusals.specs.Range.{every, between, within, within_at, squares_of, near_one, unit_at}
 use Rattle.refusals.specs.Lowest.{lowest_from, lowest}
 use Rattle.refusals.specs.Lengths.{positions_length, rotations_length}
@@ -174,11 +175,11 @@ pub record Cases : Type 0 where
   pub seven-joints : length (objectives (picked_list tolerances) (7 ∷ [])) ≡ 32
   pub six-and-three : length (objectives (picked_list tolerances) (6 ∷ 3 ∷ [])) ≡ 36
   -- the same through sizing, on whole sheets
-  pub seven-joints-sized : sizing_of tolerances (1 ∷ 7 ∷ []) (turning 7) (ups 7) ≡ Planned (record { positions = 24; rotations = 36; objectives = 32; entries = 35 })
-  pub six-and-three-sized : sizing_of tolerances (2 ∷ 6 ∷ 3 ∷ []) (turning 9) (ups 9) ≡ Planned (record { positions = 33; rotations = 52; objectives = 36; entries = 36 })
+  pub seven-joints-sized : sizing_of tolerances (1 ∷ 7 ∷ []) (turning 7) (ups 7) ≡ Ok (record { positions = 24; rotations = 36; objectives = 32; entries = 35 })
+  pub six-and-three-sized : sizing_of tolerances (2 ∷ 6 ∷ 3 ∷ []) (turning 9) (ups 9) ≡ Ok (record { positions = 33; rotations = 52; objectives = 36; entries = 36 })
   -- fixed, revolute, revolute, fixed: 9 walked, links 0 1 2 3 1 2 3 2 3, joints 65535 four times, 0 0 0 1 1
   pub record-count : entries_of four between-fixed ≡ 9
-  pub record-sized : sizing_of tolerances (1 ∷ 4 ∷ []) between-fixed (ups 4) ≡ Planned (record { positions = 15; rotations = 24; objectives = 12; entries = 9 })
+  pub record-sized : sizing_of tolerances (1 ∷ 4 ∷ []) between-fixed (ups 4) ≡ Ok (record { positions = 15; rotations = 24; objectives = 12; entries = 9 })
   pub record-links : record_links four between-fixed ≡ 0 ∷ 1 ∷ 2 ∷ 3 ∷ 1 ∷ 2 ∷ 3 ∷ 2 ∷ 3 ∷ []
   pub record-joints : record_joints four between-fixed ≡ 65535 ∷ 65535 ∷ 65535 ∷ 65535 ∷ 0 ∷ 0 ∷ 0 ∷ 1 ∷ 1 ∷ []
   -- each entry with the pose after its link in its copy's walk
@@ -221,7 +222,7 @@ pub record Cases : Type 0 where
   pub tie-turned : (pose_of pair (12 ∷ 11 ∷ []) (ups 2) (neg one ∷ of_bits binary64 0x403f_6a7a_2955_385e ∷ []) 1).rotation.i ≡ nought
   -- a chain of one joint is refused, one of two is taken
   pub one-joint : load_refusal (1 ∷ 1 ∷ []) (13 ∷ []) up free ≡ 4
-  pub one-joint-sized : sizing_of tolerances (1 ∷ 1 ∷ []) (13 ∷ []) up ≡ Refused 4
+  pub one-joint-sized : sizing_of tolerances (1 ∷ 1 ∷ []) (13 ∷ []) up ≡ Err Joints
   pub two-joints : load_refusal (1 ∷ 2 ∷ []) (13 ∷ 13 ∷ []) (up ++ up) (free ++ free) ≡ 0
   -- eight weights are taken, -0.0 and 1000 among them; none, seven and nine are refused
   pub weights-taken : weights_refusal (neg nought ∷ thousand ∷ replicate 6 one) ≡ 0
@@ -263,8 +264,8 @@ pub record Cases : Type 0 where
       ∷ EachJointLimits 0 ∷ EachJointLimits 1 ∷ EachJointLimits 2 ∷ EachJointLimits 3
       ∷ MinimizeVelocity ∷ MinimizeAcceleration ∷ MinimizeJerk ∷ MaximizeManipulability ∷ []
   -- 7 joints: 28 strict objectives; chains of 6 and 3: 28; the lists' lengths are the same
-  pub seven-joints-strict : sizing_of strict (1 ∷ 7 ∷ []) (turning 7) (ups 7) ≡ Planned (record { positions = 24; rotations = 36; objectives = 28; entries = 35 })
-  pub six-and-three-strict : sizing_of strict (2 ∷ 6 ∷ 3 ∷ []) (turning 9) (ups 9) ≡ Planned (record { positions = 33; rotations = 52; objectives = 28; entries = 36 })
+  pub seven-joints-strict : sizing_of strict (1 ∷ 7 ∷ []) (turning 7) (ups 7) ≡ Ok (record { positions = 24; rotations = 36; objectives = 28; entries = 35 })
+  pub six-and-three-strict : sizing_of strict (2 ∷ 6 ∷ 3 ∷ []) (turning 9) (ups 9) ≡ Ok (record { positions = 33; rotations = 52; objectives = 28; entries = 36 })
   -- at the goal, turned as it is or by its negative, a strict goal costs -1; 3 by 4 away its distance is 5
   pub strict-there : pos_goals_loss (vec one two three) (vec one two three) ≡ neg one
   pub strict-turned : quat_goals_loss identity_of identity_of ≡ neg one
@@ -284,7 +285,7 @@ poses-walked gs x = refl
 
 -- All of them, by computing both sides.
 pub cases : Cases
-unfolding record_joints record_links record_of again_of joint_entry link_entry again_at again_below entries_of end_in objectives goal_objectives limit_objective motion_objectives pair_objective all_pairs chain_pairs pairs_of pairs_from groove_loss swamp_loss scaled_of bounds_penalty power_of b_of power20_of squarings exp_of exp_series_of exp_term_of positions_of rotations_of chain_positions chain_rotations positions_from rotations_from position_at rotation_at runs pose_of before_of start_of after_link value_of link_of is_none offset_of signed_by along_of turn_of joint_turn about_of turned_by carried_of own_axis_of telescoped_of slid_of moved_of extended_of vec_at quat_at flat_vec flat_quat first_in total chain_start has_joint joints_of joint_of joints kind_at kind_of origin_of zero_of identity_of product_of axis_of twice_of rotate_of quat_x_of quat_y_of quat_z_of sine_of cosine_of whole_of turned_of reduced_of sine_series_of cosine_series_of series_of term_of sine_divisor cosine_divisor down_from root_of distance_of point_of closest_of ended_of inner_of add_of sub_of scale_of dot_of cross_of norm_of cut_of block_refusal history_refusal bad_history history_fits joint_range joint_fits value_fits link_value_fits block_fits bad_block every between within within_at squares_of near_one unit_at free_of ranged_pair pair_fits limits_fit bad_limits link_fits bad_floats load_refusal lowest lowest_from bad_sizes links_fit bad_lengths bad_codes listed_at listed_code listed_kind bad_joints two_joints later_fits chain_length weights_refusal bad_weights weight_fits_at weight_fits tip_of has_tool seven_fit tool_refusal bad_tool tools_refusal bad_tools tool_fits weight_of kind_number goal_width pos_goals_loss quat_goals_loss match_ee_pos_goals match_ee_quat_goals evaluate_of strict_loss min_of negative_of distance_from angle_from angle_between_quaternion quaternion_disp quaternion_log from_quaternion over_quat quat_norm acos_of acute_of opposite_of inverse_of abs_of atan2_of small_angle_of halved_of arc_series_of arc_term_of add sub mul div neg eq ne lt le of_int of_bits sizing_of planned_if plan_of sizing_refusal positions_length rotations_length chain_lengths listed
+unfolding record_joints record_links record_of again_of joint_entry link_entry again_at again_below entries_of end_in objectives goal_objectives limit_objective motion_objectives pair_objective all_pairs chain_pairs pairs_of pairs_from groove_loss swamp_loss scaled_of bounds_penalty power_of b_of power20_of squarings exp_of exp_series_of exp_term_of positions_of rotations_of chain_positions chain_rotations positions_from rotations_from position_at rotation_at runs pose_of before_of start_of after_link value_of link_of is_none offset_of signed_by along_of turn_of joint_turn about_of turned_by carried_of own_axis_of telescoped_of slid_of moved_of extended_of vec_at quat_at flat_vec flat_quat first_in total chain_start has_joint joints_of joint_of joints kind_at kind_of origin_of zero_of identity_of product_of axis_of twice_of rotate_of quat_x_of quat_y_of quat_z_of sine_of cosine_of whole_of turned_of reduced_of sine_series_of cosine_series_of series_of term_of sine_divisor cosine_divisor down_from root_of distance_of point_of closest_of ended_of inner_of add_of sub_of scale_of dot_of cross_of norm_of cut_of block_refusal history_refusal bad_history history_fits joint_range joint_fits value_fits link_value_fits block_fits bad_block every between within within_at squares_of near_one unit_at free_of ranged_pair pair_fits limits_fit bad_limits link_fits bad_floats load_refusal lowest lowest_from bad_sizes links_fit bad_lengths bad_codes listed_at listed_code listed_kind bad_joints two_joints later_fits chain_length weights_refusal bad_weights weight_fits_at weight_fits tip_of has_tool seven_fit tool_refusal bad_tool tools_refusal bad_tools tool_fits weight_of kind_number goal_width pos_goals_loss quat_goals_loss match_ee_pos_goals match_ee_quat_goals evaluate_of strict_loss min_of negative_of distance_from angle_from angle_between_quaternion quaternion_disp quaternion_log from_quaternion over_quat quat_norm acos_of acute_of opposite_of inverse_of abs_of atan2_of small_angle_of halved_of arc_series_of arc_term_of add sub mul div neg eq ne lt le of_int of_bits sizing_of planned_if refusal_of plan_of sizing_refusal positions_length rotations_length chain_lengths listed
 cases = record {
   groove-centre = refl;
   swamp-centre = refl;

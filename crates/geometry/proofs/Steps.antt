@@ -3,7 +3,7 @@ use mathlib.Core.Path.{◌≡◌, refl, sym, ap, ◌∙◌}
 use mathlib.Core.Bool.{Bool, true, false, cond}
 use mathlib.Core.Logic.{⊎_elim}
 use mathlib.Core.List.{List}
-use Prim.Native.Nat.{ℕ, zero, suc, ◌+◌, ◌-◌, ◌≤◌, ◌<◌}
+use Prim.Native.Nat.{ℕ, suc, ◌+◌, ◌-◌, ◌≤◌, ◌<◌}
 use native.Mathlib.Omega.{arith}
 use lib.Dec.{eqb, ltb}
 use lib.Ieee.{Float, lt, eq}
@@ -11,7 +11,7 @@ use lib.ListN.{length}
 use borrow.Author.Tests.{lt-ltb, le-ltb, eq-eqb, ne_eqb}
 use Rattle.standins.specs.Num.{nought, abs_of}
 use Rattle.geometry.specs.Matrix.{entry, matrix_of, put, in_row, larger_of, largest_of, pivot_row_of, other_row, swap_of, swap_count, eliminated_of, eliminate_of, diagonal_of, signed_of, steps_of}
-use Rattle.geometry.proofs.Tables.{same_or, length-matrix, matrix-is, Rewritten, by_column, by_row, rewritten-none, columns-turn, rows-turn}
+use Rattle.geometry.proofs.Tables.{same_or, matrix-is, Rewritten, by_column, by_row, rewritten-none, columns-turn, rows-turn}
 
 -- ---- the pivot's row
 pub largest-none : (m : List Float) (k : ℕ) → k ≡ largest_of m k (k + 1 - k - 1)
@@ -33,22 +33,9 @@ larger-below m k p i hp hi = pick (lt (abs_of (entry m p k)) (abs_of (entry m i 
     pick true = hi
     pick false = hp
 
-largest-below : (m : List Float) (k n : ℕ) → k + n < 6 → largest_of m k n < 6
-unfolding largest_of
-largest-below m k zero h = omega arith
-largest-below m k (suc n) h = larger-below m k (largest_of m k n) (k + suc n) (largest-below m k n (omega arith)) h
-
-pub pivot-below : (m : List Float) (k : ℕ) → k < 6 → pivot_row_of m k < 6
-unfolding pivot_row_of
-pivot-below m k h = largest-below m k (5 - k) (omega arith)
-
 -- ---- rows k and p swapped, column by column
 abbrev pub swapped : List Float → ℕ → ℕ → ℕ → ℕ → Float
 swapped m k p i j = entry m (other_row k p i) j
-
-pub length-swap : (m : List Float) (k p : ℕ) → length (swap_of m k p) ≡ 36
-unfolding swap_of
-length-swap m k p = length-matrix (swapped m k p)
 
 other-same : (k i : ℕ) → other_row k k i ≡ i
 unfolding other_row
@@ -86,10 +73,6 @@ swap-turn m {cur} k p {c} hk hp hc w =
 -- ---- the rows below k lose, row by row
 abbrev pub lost : List Float → ℕ → ℕ → ℕ → Float
 lost m k r j = cond (ltb k r) (eliminated_of m k r j) (entry m r j)
-
-pub length-eliminate : (m : List Float) (k : ℕ) → length (eliminate_of m k) ≡ 36
-unfolding eliminate_of
-length-eliminate m k = length-matrix (lost m k)
 
 module _ (m : List Float) (k : ℕ) where
   -- the rows up to k, the pivot's with them, stay

@@ -5,6 +5,7 @@ ghost use Rattle.geometry.specs.Matrix.{entry, matrix_of, put, in_row, larger_of
 
 // The larger of x and -x: the absolute value but for the sign of a zero, which no comparison sees.
 // One instruction, where a test of the sign is a branch that is often guessed wrong.
+#[tactic(auto, unfolding(crate::specs::Size::size_of))]
 fn size(x: f64) -> f64
     ensures { result ≡ size_of x }
 {
@@ -32,6 +33,7 @@ fn put_entry(m: &mut [f64; 36], i: usize, j: usize, v: f64)
 }
 
 // Of rows p and i the one with the larger absolute value in column k, p on a tie.
+#[tactic(auto, using(crate::specs::Size::size_below), unfolding(crate::specs::Matrix::larger_of))]
 fn larger(m: &[f64; 36], k: usize, p: usize, i: usize) -> usize
     requires { (k < 6) × (p < 6) × (i < 6) }
     ensures { result ≡ larger_of m.now k p i }
@@ -44,34 +46,30 @@ fn larger(m: &[f64; 36], k: usize, p: usize, i: usize) -> usize
 
 fn pivot_row(m: &[f64; 36], k: usize) -> usize
     requires { k < 6 }
-    ensures { result ≡ pivot_row_of m.now k }
+    ensures { (result < 6) × (result ≡ pivot_row_of m.now k) }
 {
     let mut p = k;
-    let mut i = k + 1;
-    while i < 6 {
+    for i in k + 1..6 {
         p = larger(m, k, p, i);
-        i += 1;
     }
     p
 }
 
 fn swap_rows(m: &mut [f64; 36], k: usize, p: usize)
-    requires { (k < 6) × (p < 6) × (length m.old ≡ 36) }
+    requires { (k < 6) × (p < 6) }
     ensures { m.new ≡ swap_of m.old k p }
 {
-    let mut c = 0;
-    while c < 6 {
+    for c in 0..6 {
         let x = entry(m, k, c);
         let y = entry(m, p, c);
         put_entry(m, k, c, y);
         put_entry(m, p, c, x);
-        c += 1;
     }
 }
 
 // Swaps rows k and p if they differ, and says how many swaps that was.
 fn exchange(m: &mut [f64; 36], k: usize, p: usize) -> usize
-    requires { (k < 6) × (p < 6) × (length m.old ≡ 36) }
+    requires { (k < 6) × (p < 6) }
     ensures { (result ≡ swap_count k p) × (m.new ≡ swap_of m.old k p) }
 {
     if k == p {
@@ -82,29 +80,26 @@ fn exchange(m: &mut [f64; 36], k: usize, p: usize) -> usize
 }
 
 fn eliminate_row(m: &mut [f64; 36], k: usize, i: usize)
-    requires { (k < i) × (i < 6) × (length m.old ≡ 36) }
+    requires { (k < i) × (i < 6) }
     ensures { m.new ≡ matrix_of (in_row m.old i (eliminated_of m.old k i)) }
 {
     let f = entry(m, i, k) / entry(m, k, k);
-    let mut c = 0;
-    while c < 6 {
+    for c in 0..6 {
         let v = entry(m, i, c) - f * entry(m, k, c);
         put_entry(m, i, c, v);
-        c += 1;
     }
 }
 
 fn eliminate_below(m: &mut [f64; 36], k: usize)
-    requires { (k < 6) × (length m.old ≡ 36) }
+    requires { k < 6 }
     ensures { m.new ≡ eliminate_of m.old k }
 {
-    let mut i = k + 1;
-    while i < 6 {
+    for i in k + 1..6 {
         eliminate_row(m, k, i);
-        i += 1;
     }
 }
 
+#[tactic(auto, unfolding(crate::specs::Matrix::diagonal_of))]
 fn diagonal(m: &[f64; 36]) -> f64
     ensures { result ≡ diagonal_of m.now }
 {
@@ -116,15 +111,13 @@ pub fn determinant(m: [f64; 36]) -> f64
 {
     let mut a = m;
     let mut swaps = 0;
-    let mut k = 0;
-    while k < 6 {
+    for k in 0..6 {
         let p = pivot_row(&a, k);
         if entry(&a, p, k) == 0.0 {
             return 0.0;
         }
         swaps += exchange(&mut a, k, p);
         eliminate_below(&mut a, k);
-        k += 1;
     }
     let d = diagonal(&a);
     if swaps % 2 == 1 {
@@ -135,26 +128,22 @@ pub fn determinant(m: [f64; 36]) -> f64
 
 // Adds to row r the column c times its own entry in that row.
 fn add_row(m: &mut [f64; 36], j: &[f64], c: usize, r: usize)
-    requires { (c < length j.now / 6) × (r < 6) × (length m.old ≡ 36) }
+    requires { (c < length j.now / 6) × (r < 6) }
     ensures { m.new ≡ matrix_of (in_row m.old r (added_of m.old j.now c r)) }
 {
     let x = entry(j, c, r);
-    let mut s = 0;
-    while s < 6 {
+    for s in 0..6 {
         let v = entry(m, r, s) + x * entry(j, c, s);
         put_entry(m, r, s, v);
-        s += 1;
     }
 }
 
 fn add_column(m: &mut [f64; 36], j: &[f64], c: usize)
-    requires { (c < length j.now / 6) × (length m.old ≡ 36) }
+    requires { c < length j.now / 6 }
     ensures { m.new ≡ add_column_of m.old j.now c }
 {
-    let mut r = 0;
-    while r < 6 {
+    for r in 0..6 {
         add_row(m, j, c, r);
-        r += 1;
     }
 }
 
@@ -164,10 +153,8 @@ pub fn gram(j: &[f64]) -> [f64; 36]
 {
     let n = j.len() / 6;
     let mut m = [0.0; 36];
-    let mut c = 0;
-    while c < n {
+    for c in 0..n {
         add_column(&mut m, j, c);
-        c += 1;
     }
     m
 }

@@ -1,4 +1,6 @@
 // A pose: where a frame stands and how it is turned.
+#![tactic(auto, unfolding(crate::specs::Pose::origin_of))]
+
 ghost use Rattle.std.specs.Prelude.{◌≡◌};
 ghost use Rattle.geometry.specs.Pose.{origin_of};
 

@@ -1,9 +1,12 @@
 // Quaternions, w first, and rotations by them.
+#![tactic(auto, unfolding(crate::specs::Quaternion::product_of, crate::specs::Quaternion::inverse_of, crate::specs::Quaternion::axis_of, crate::specs::Quaternion::twice_of, crate::specs::Quaternion::rotate_of, crate::specs::Quaternion::identity_of, crate::specs::Quaternion::quat_x_of, crate::specs::Quaternion::quat_y_of, crate::specs::Quaternion::quat_z_of, crate::specs::Quaternion::turn_axis_of, crate::specs::Quaternion::scaled_axis_of))]
+
 ghost use Rattle.std.specs.Prelude.{◌≡◌};
 ghost use Rattle.geometry.specs.Quaternion.{product_of, inverse_of, axis_of, twice_of, rotate_of, identity_of, quat_x_of, quat_y_of, quat_z_of, turn_axis_of, scaled_axis_of};
 
 use crate::vector;
 use crate::vector::Vec3;
+use standins::series::SineCosine;
 use standins::{cut, series};
 
 #[derive(Clone, Copy)]
@@ -80,10 +83,10 @@ pub fn identity() -> Quat
 pub fn get_quat_x(v: f64) -> Quat
     ensures { result ≡ quat_x_of v }
 {
-    let both = series::sine_cosine(v * 0.5);
+    let SineCosine { sine, cosine } = series::sine_cosine(v * 0.5);
     Quat {
-        w: both.cosine,
-        i: both.sine,
+        w: cosine,
+        i: sine,
         j: 0.0,
         k: 0.0,
     }
@@ -92,11 +95,11 @@ pub fn get_quat_x(v: f64) -> Quat
 pub fn get_quat_y(v: f64) -> Quat
     ensures { result ≡ quat_y_of v }
 {
-    let both = series::sine_cosine(v * 0.5);
+    let SineCosine { sine, cosine } = series::sine_cosine(v * 0.5);
     Quat {
-        w: both.cosine,
+        w: cosine,
         i: 0.0,
-        j: both.sine,
+        j: sine,
         k: 0.0,
     }
 }
@@ -104,12 +107,12 @@ pub fn get_quat_y(v: f64) -> Quat
 pub fn get_quat_z(v: f64) -> Quat
     ensures { result ≡ quat_z_of v }
 {
-    let both = series::sine_cosine(v * 0.5);
+    let SineCosine { sine, cosine } = series::sine_cosine(v * 0.5);
     Quat {
-        w: both.cosine,
+        w: cosine,
         i: 0.0,
         j: 0.0,
-        k: both.sine,
+        k: sine,
     }
 }
 

@@ -1,4 +1,6 @@
 // Vectors of three floats.
+#![tactic(auto, unfolding(crate::specs::Vector::zero_of, crate::specs::Vector::add_of, crate::specs::Vector::sub_of, crate::specs::Vector::negate_of, crate::specs::Vector::scale_of, crate::specs::Vector::over_of, crate::specs::Vector::dot_of, crate::specs::Vector::cross_of, crate::specs::Vector::norm_of))]
+
 ghost use Rattle.std.specs.Prelude.{◌≡◌};
 ghost use Rattle.geometry.specs.Vector.{zero_of, add_of, sub_of, negate_of, scale_of, over_of, dot_of, cross_of, norm_of};
 

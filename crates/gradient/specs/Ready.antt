@@ -1,5 +1,5 @@
 -- What an accepted call has.
-use Rattle.std.specs.Prelude.{◌≡◌, ℕ, ◌-◌, ◌*◌, ◌≤◌, ◌<◌, Float, length, take}
+use Rattle.std.specs.Prelude.{◌≡◌, None, ℕ, ◌-◌, ◌*◌, ◌≤◌, ◌<◌, Float, length, take}
 use Rattle.std.proofs.Common.{sym, ap, ◌∙◌}
 use mathlib.Core.List.{List}
 use native.Mathlib.Omega.{arith}
@@ -82,7 +82,7 @@ module _ (ns cs : List ℕ) (task : List Float) (picks : Picks) (gs x : List Flo
         whole = r.whole;
       }
 
-  pub cached-whole : (P : ℕ → Pose) (out : List Float) → length (kinds_of picks ns cs) ≤ length out → Cached G P x 0 (length cs) 65535 out
+  pub cached-whole : (P : ℕ → Pose) (out : List Float) → length (kinds_of picks ns cs) ≤ length out → Cached G P x 0 (length cs) None out
   unfolding given_of
   cached-whole P out h = cached-at G r.chains P x out (sym r.sheet.whole) (omega (arith, kinds-length picks ns cs))
 

@@ -69,13 +69,11 @@ fn put_gradient(
     ensures slopes_after { slopes.new ≡ splice slopes.old 0 (slopes_of rule (given_in counts codes task picks) floats.now scratch.old) }
     ensures scratch_unchanged { scratch.new ≡ scratch.old }
 {
-    let mut joint: usize = 0;
-    while joint < scratch.len() {
+    for joint in 0..scratch.len() {
         let asked = Asked { rule, joint, f_0 };
         slopes[joint] = slope(
             asked, counts, codes, floats, task, picks, scratch, kinds, f_0s, poses, f_hs,
         );
-        joint += 1;
     }
 }
 
@@ -100,31 +98,13 @@ fn gradient_on(
     let mut f_hs = [0.0; 131];
     let mut list = [0u16; 131];
     let n = relaxed_ik::relaxed_ik(counts, codes, picks, &mut list);
+    let kinds = &list[..n];
     let f_0 = value::value_of(
-        counts,
-        codes,
-        floats,
-        task,
-        picks,
-        scratch,
-        &list[..n],
-        &mut poses,
-        &mut f_0s,
+        counts, codes, floats, task, picks, scratch, kinds, &mut poses, &mut f_0s,
     );
     put_gradient(
-        rule,
-        counts,
-        codes,
-        floats,
-        task,
-        picks,
-        scratch,
-        &list[..n],
-        f_0,
-        &f_0s,
-        &mut poses,
-        &mut f_hs,
-        slopes,
+        rule, counts, codes, floats, task, picks, scratch, kinds, f_0, &f_0s, &mut poses,
+        &mut f_hs, slopes,
     );
     f_0
 }
@@ -146,7 +126,7 @@ pub fn gradient(
     ensures slopes_after { slopes.new ≡ splice slopes.old 0 (slopes_of rule (given_in counts codes task picks) floats.now joints.now) }
     ensures scratch_after { scratch.new ≡ splice scratch.old 0 joints.now }
 {
-    lists::copy_floats(joints, scratch);
+    lists::copy(joints, scratch);
     gradient_on(
         rule,
         counts,

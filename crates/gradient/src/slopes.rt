@@ -29,10 +29,8 @@ fn put_slopes(f_0s: &[f64], f_hs: &mut [f64], n: usize)
     requires { (n ≤ length f_0s.now) × (n ≤ length f_hs.old) }
     ensures { f_hs.new ≡ splice f_hs.old 0 (listed (slope_between f_0s.now f_hs.old) n) }
 {
-    let mut i: usize = 0;
-    while i < n {
+    for i in 0..n {
         f_hs[i] = (-f_0s[i] + f_hs[i]) / 0.0000001;
-        i += 1;
     }
 }
 

@@ -6,7 +6,7 @@ ghost use Rattle.objective_master.specs.Kinds.{kinds_of};
 ghost use Rattle.gradient.specs.Gradient.{losses_at, value_at};
 ghost use Rattle.gradient.specs.Ready.{Ready};
 
-use objective_master::losses::Walked;
+use manipulability::view::Poses;
 use objective_master::{losses, relaxed_ik, weights};
 use spacetime::arm;
 use task::parts;
@@ -28,12 +28,13 @@ pub fn losses_of(
     ensures { out.new ≡ splice out.old 0 (losses_at (given_in counts codes task picks) floats.now x.now) }
 {
     arm::get_frames_immutable(counts, codes, floats, x, poses);
-    let all = Walked {
+    let all = Poses {
+        base: poses,
+        tail: poses,
         from: 0,
         to: codes.len(),
-        joint: 65535,
     };
-    losses::put_losses(counts, codes, task, picks, x, poses, poses, all, out);
+    losses::put_losses(counts, codes, task, picks, x, all, None, out);
 }
 
 // The objective's value; `out` gets the losses.

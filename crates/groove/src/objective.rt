@@ -239,6 +239,7 @@ pub fn strict_loss() -> Loss
 }
 
 // The objectives, each on its argument.
+// Kept: several have one body, since each has the name that it has in the source.
 pub fn match_ee_posi_dof(dist: f64, bound: f64) -> f64
     ensures { result ≡ match_ee_posi_dof dist bound }
 {
@@ -318,8 +319,7 @@ pub fn joint_changes(x: &[f64], xopt: &[f64], prev_state: &[f64], prev_state2: &
     let mut velocity = 0.0;
     let mut acceleration = 0.0;
     let mut jerk = 0.0;
-    let mut i: usize = 0;
-    while i < x.len() {
+    for i in 0..x.len() {
         let v1 = x[i] - xopt[i];
         let v2 = xopt[i] - prev_state[i];
         let v3 = prev_state[i] - prev_state2[i];
@@ -328,7 +328,6 @@ pub fn joint_changes(x: &[f64], xopt: &[f64], prev_state: &[f64], prev_state2: &
         velocity = velocity + v1 * v1;
         acceleration = acceleration + a1 * a1;
         jerk = jerk + (a1 - a2) * (a1 - a2);
-        i += 1;
     }
     roots(velocity, acceleration, jerk)
 }
@@ -337,13 +336,5 @@ pub fn joint_changes(x: &[f64], xopt: &[f64], prev_state: &[f64], prev_state2: &
 pub fn any_nan(x: &[f64]) -> bool
     ensures { result ≡ any_nan x.now }
 {
-    let mut i: usize = 0;
-    while i < x.len() {
-        let v = x[i];
-        if v != v {
-            return true;
-        }
-        i += 1;
-    }
-    false
+    x.iter().any(|v| v.is_nan())
 }

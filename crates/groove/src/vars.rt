@@ -17,7 +17,7 @@ pub fn padded16(x: &[f64]) -> [f64; 16]
     ensures { result ≡ padded x.now }
 {
     let mut out = [0.0; 16];
-    lists::copy_floats(x, &mut out);
+    lists::copy(x, &mut out);
     out
 }
 
@@ -26,7 +26,7 @@ impl History {
         ensures { result ≡ reset_of init_state joints }
     {
         History {
-            joints: joints,
+            joints,
             xopt: init_state,
             prev_state: init_state,
             prev_state2: init_state,
@@ -37,12 +37,13 @@ impl History {
     pub fn update(self, xopt: [f64; 16]) -> History
         ensures { result ≡ update_of self xopt }
     {
+        // Kept: the check takes an array that a literal stores only from a variable.
         let current = self.xopt;
         let before = self.prev_state;
         let before2 = self.prev_state2;
         History {
             joints: self.joints,
-            xopt: xopt,
+            xopt,
             prev_state: current,
             prev_state2: before,
             prev_state3: before2,

@@ -1,9 +1,21 @@
 -- A list of floats that may be left out. Left out is one without a byte alone: a ragged list, and one longer than any that is taken, is of a wrong length.
-use Rattle.std.specs.Prelude.{◌≡◌, refl, Bool, true, false, cond, List, ℕ, ◌*◌, ◌/◌, ◌%◌, ◌≤◌, ◌<◌, eqb, ltb, length}
+use Rattle.std.specs.Prelude.{◌≡◌, refl, Bool, true, false, cond, List, ℕ, ◌*◌, ◌/◌, ◌%◌, ◌≤◌, ◌<◌, eqb, ltb, length, Option, Some, None, Result, Ok, Err}
 use Rattle.std.proofs.Common.{ap, ⊎_elim, arith, eq-eqb, ne_eqb, lt-ltb, le-ltb, eqb-true}
 use Rattle.lent_bytes.specs.Lent.{count_in, Misfit, count_under}
-use Rattle.lent_bytes.specs.declared.optional.Optional.{Optional}
-use Rattle.lent_bytes.specs.declared.optional.Optional.TheVariants.{Empty, Floats, WrongLength}
+use Rattle.lent_bytes.specs.declared.optional.WrongLength as declared
+
+-- left out, so many floats, or of a wrong length
+abbrev pub Optional : Type 0
+Optional = Result (Option ℕ) declared.WrongLength
+
+abbrev pub Empty : Optional
+Empty = Ok None
+
+abbrev pub Floats : ℕ → Optional
+Floats n = Ok (Some n)
+
+abbrev pub WrongLength : Optional
+WrongLength = Err (record {})
 
 abbrev pub optional_if : Bool → Optional → Optional → Optional
 optional_if true a b = a
@@ -18,9 +30,9 @@ optional_in cap b = optional_of cap (length b)
 
 -- how many floats there are
 abbrev pub count_of : Optional → ℕ
-count_of Empty = 0
-count_of (Floats n) = n
-count_of WrongLength = 0
+count_of (Ok None) = 0
+count_of (Ok (Some n)) = n
+count_of (Err e) = 0
 
 -- ---- laws: left out is the list without a byte, and no other
 pub left_out : (cap : ℕ) (b : List ℕ) → length b ≡ 0 → optional_in cap b ≡ Empty

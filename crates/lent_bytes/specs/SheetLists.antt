@@ -1,10 +1,8 @@
 -- What a byte call is lent: the sheet's four lists as one value, and the lists beside it.
-use Rattle.std.specs.Prelude.{◌≡◌, List, ℕ, Float, length, take}
+use Rattle.std.specs.Prelude.{◌≡◌, List, ℕ, Float, length}
 use Rattle.std.proofs.Common.{ap, ◌∙◌}
 use Rattle.lists.specs.Lent.{LentList, lent, LentOutput, output_lent}
-use Rattle.lent_bytes.specs.Lent.{Front, numbers_in, floats_in, room_in, number_room_in}
-use Rattle.lent_bytes.specs.declared.sheet_lists.SheetCounts.{SheetCounts}
-use Rattle.lent_bytes.specs.declared.task_lists.TaskCounts.{TaskCounts}
+use Rattle.lent_bytes.specs.Lent.{numbers_in, floats_in, room_in, number_room_in}
 
 -- the arm sheet and its limits
 pub record SheetLists : Type 0 where
@@ -30,8 +28,11 @@ codes_from codes = numbers_in 64 codes
 abbrev pub link_floats_from : List ℕ → List Float
 link_floats_from floats = floats_in 448 floats
 
+abbrev pub limits_from : List ℕ → List Float
+limits_from limits = floats_in 32 limits
+
 abbrev pub sheet_from : List ℕ → List ℕ → List ℕ → List ℕ → SheetLists
-sheet_from sizes codes floats limits = sheet_with (sizes_from sizes) (codes_from codes) (link_floats_from floats) (floats_in 32 limits)
+sheet_from sizes codes floats limits = sheet_with (sizes_from sizes) (codes_from codes) (link_floats_from floats) (limits_from limits)
 
 abbrev pub sizes_in : {X : Type 0} → LentList ℕ X → List ℕ
 sizes_in sizes = sizes_from (lent sizes)
@@ -41,6 +42,9 @@ codes_in codes = codes_from (lent codes)
 
 abbrev pub link_floats_in : {X : Type 0} → LentList ℕ X → List Float
 link_floats_in floats = link_floats_from (lent floats)
+
+abbrev pub limits_in : {X : Type 0} → LentList ℕ X → List Float
+limits_in limits = limits_from (lent limits)
 
 abbrev pub sheet_in : {X Y Z W : Type 0} → LentList ℕ X → LentList ℕ Y → LentList ℕ Z → LentList ℕ W → SheetLists
 sheet_in sizes codes floats limits = sheet_from (lent sizes) (lent codes) (lent floats) (lent limits)
@@ -71,20 +75,6 @@ room_of out = room_in (length (output_lent out))
 abbrev pub number_room_of : LentOutput ℕ → ℕ
 number_room_of out = number_room_in (length (output_lent out))
 
--- the lists of a sheet at the fronts of four lists, n of each
-pub record SheetHeld (s : SheetLists) (n : SheetCounts) (sizes codes : List ℕ) (floats limits : List Float) : Type 0 where
-  pub of-sizes : Front s.sizes sizes n.sizes
-  pub of-codes : Front s.codes codes n.codes
-  pub of-floats : Front s.floats floats n.floats
-  pub of-limits : Front s.limits limits n.limits
-
--- goals, history and joints at the fronts of three, the last of which has room for any joints: a call may raise them in place
-pub record TaskHeld (g h x : List Float) (n : TaskCounts) (goals history joints : List Float) : Type 0 where
-  pub of-goals : Front g goals n.goals
-  pub of-history : Front h history n.history
-  pub of-joints : Front x joints n.joints
-  pub room : length joints ≡ 16
-
 -- ---- laws: lists that are equal
 pub same-two : {A B C : Type 0} (f : A → B → C) {a a' : A} {b b' : B} → a ≡ a' → b ≡ b' → f a b ≡ f a' b'
 same-two f {a' = a'} {b = b} p q = ap (λ x. f x b) p ∙ ap (f a') q
@@ -95,7 +85,3 @@ same-three f {a' = a'} {b' = b'} {c = c} p q r = same-two (λ a b. f a b c) p q 
 pub same-sheet : {s s' c c' : List ℕ} {f f' l l' : List Float} → s ≡ s' → c ≡ c' → f ≡ f' → l ≡ l' → sheet_with s c f l ≡ sheet_with s' c' f' l'
 same-sheet {s' = s'} {c = c} {c' = c'} {f = f} {f' = f'} {l = l} p q r t =
     ap (λ x. sheet_with x c f l) p ∙ ap (λ x. sheet_with s' x f l) q ∙ ap (λ x. sheet_with s' c' x l) r ∙ ap (sheet_with s' c' f') t
-
-pub sheet-held : {s : SheetLists} {n : SheetCounts} {sizes codes : List ℕ} {floats limits : List Float} → SheetHeld s n sizes codes floats limits
-    → sheet_with (take n.sizes sizes) (take n.codes codes) (take n.floats floats) (take n.limits limits) ≡ s
-sheet-held h = same-sheet h.of-sizes.held h.of-codes.held h.of-floats.held h.of-limits.held

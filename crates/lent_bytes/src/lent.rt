@@ -1,129 +1,91 @@
 // Lists that are lent as little-endian bytes: in and out as u16s and floats.
-ghost use Rattle.std.specs.Prelude.{◌≡◌, ◌+◌, ◌*◌, ◌≤◌, ◌<◌, length};
-ghost use Rattle.std.specs.Float.{binary64};
-ghost use Rattle.std.specs.Float.Ieee.{to_bits};
+ghost use Rattle.std.specs.Prelude.{◌≡◌, ◌+◌, ◌*◌, ◌/◌, ◌≤◌, ◌<◌, length};
 ghost use Rattle.lists.specs.Splice.{splice};
-ghost use Rattle.lent_bytes.specs.Lent.{Front, count_in, numbers_in, floats_in, room_in, number_room_in, pair_bytes, half_bytes, word_bytes, bytes_of, bytes_of_numbers};
+ghost use Rattle.lent_bytes.specs.Lent.{Front, count_in, numbers_in, floats_in, whole_in, room_in, number_room_in, bytes_of, bytes_of_numbers};
 
-use crate::bytes;
+use crate::element::Element;
 
-// How many elements of `width` bytes are taken of `size` bytes.
-fn count(width: usize, most: usize, size: usize) -> usize
+// How many elements of `width` bytes `size` bytes are, 0 where they are no whole count.
+fn whole(width: usize, size: usize) -> usize
     requires { 0 < width }
-    ensures { result ≡ count_in width most size }
+    ensures { result ≡ whole_in width size }
 {
     if size % width != 0 {
         return 0;
     }
-    let n = size / width;
+    size / width
+}
+
+// How many elements of `width` bytes are taken of `size` bytes.
+fn count(width: usize, most: usize, size: usize) -> usize
+    requires { 0 < width }
+    ensures count { result ≡ count_in width most size }
+    ensures fits { (result ≤ most) × (result ≤ size / width) }
+{
+    let n = whole(width, size);
     if most < n { 0 } else { n }
 }
 
-// The u16s of a byte list go to the front of `out`.
-pub fn numbers(b: &[u8], out: &mut [u16]) -> usize
-    ensures { Front (numbers_in (length out.old) b.now) out.new result }
+// The elements of a byte list go to the front of `out`.
+pub fn decode<T: Element<N>, const N: usize>(b: &[u8], out: &mut [T]) -> usize
+    ensures { Front (T.taken (length out.old) b.now) out.new result }
 {
-    let n = count(2, out.len(), b.len());
-    let mut i: usize = 0;
-    while i < n {
-        out[i] = bytes::pair_at(b, 2 * i) as u16;
-        i += 1;
+    let n = count(N, out.len(), b.len());
+    let (elements, _) = b.as_chunks::<N>();
+    for (i, x) in out[..n].iter_mut().enumerate() {
+        *x = T::from_bytes(&elements[i]);
     }
     n
 }
 
-// The floats of a byte list go to the front of `out`.
+// The bytes of elements go to `out` from `at` on.
+pub fn put<T: Element<N>, const N: usize>(src: &[T], at: usize, out: &mut [u8])
+    requires { at + N * length src.now ≤ length out.old }
+    ensures { out.new ≡ splice out.old at (T.laid src.now) }
+{
+    for (i, x) in src.iter().enumerate() {
+        let from = at + N * i;
+        out[from..from + N].copy_from_slice(&x.to_bytes());
+    }
+}
+
+// Kept: names for the two instances; the crates above call them and their proofs cite them.
+pub fn numbers(b: &[u8], out: &mut [u16]) -> usize
+    ensures { Front (numbers_in (length out.old) b.now) out.new result }
+{
+    decode(b, out)
+}
+
 pub fn floats(b: &[u8], out: &mut [f64]) -> usize
-    requires { length out.old ≤ 65535 }
     ensures { Front (floats_in (length out.old) b.now) out.new result }
 {
-    let n = count(8, out.len(), b.len());
-    let mut i: usize = 0;
-    while i < n {
-        out[i] = bytes::float_at(b, i);
-        i += 1;
-    }
-    n
+    decode(b, out)
 }
 
 // The room in floats of an output of `size` bytes.
 pub fn room(size: usize) -> usize
     ensures { result ≡ room_in size }
 {
-    if size % 8 != 0 {
-        return 0;
-    }
-    size / 8
+    whole(8, size)
 }
 
 // The room in u16s of an output of `size` bytes.
 pub fn number_room(size: usize) -> usize
     ensures { result ≡ number_room_in size }
 {
-    if size % 2 != 0 {
-        return 0;
-    }
-    size / 2
+    whole(2, size)
 }
 
-// A float's bits, those of one NaN for each.
-fn pattern(x: f64) -> u64
-    ensures { result ≡ to_bits binary64 x }
-{
-    if x != x {
-        return 9221120237041090560;
-    }
-    f64::to_bits(x)
-}
-
-// Four bytes of `n`, the lowest first.
-fn put_half(n: u64, at: usize, out: &mut [u8])
-    requires { at + 4 ≤ length out.old }
-    ensures { out.new ≡ splice out.old at (half_bytes n) }
-{
-    out[at] = (n % 256) as u8;
-    out[at + 1] = (n / 256 % 256) as u8;
-    out[at + 2] = (n / 65536 % 256) as u8;
-    out[at + 3] = (n / 16777216 % 256) as u8;
-}
-
-fn put_word(n: u64, at: usize, out: &mut [u8])
-    requires { at + 8 ≤ length out.old }
-    ensures { out.new ≡ splice out.old at (word_bytes n) }
-{
-    put_half(n, at, out);
-    put_half(n / 4294967296, at + 4, out);
-}
-
-// The bytes of floats go to `out` from `at` on.
 pub fn put_floats(src: &[f64], at: usize, out: &mut [u8])
     requires { at + 8 * length src.now ≤ length out.old }
     ensures { out.new ≡ splice out.old at (bytes_of src.now) }
 {
-    let mut i: usize = 0;
-    while i < src.len() {
-        put_word(pattern(src[i]), at + 8 * i, out);
-        i += 1;
-    }
+    put(src, at, out);
 }
 
-// Two bytes of `n`, the lower first.
-fn put_pair(n: u16, at: usize, out: &mut [u8])
-    requires { at + 2 ≤ length out.old }
-    ensures { out.new ≡ splice out.old at (pair_bytes n) }
-{
-    out[at] = (n % 256) as u8;
-    out[at + 1] = (n / 256 % 256) as u8;
-}
-
-// The bytes of u16s go to `out` from `at` on.
 pub fn put_numbers(src: &[u16], at: usize, out: &mut [u8])
     requires { at + 2 * length src.now ≤ length out.old }
     ensures { out.new ≡ splice out.old at (bytes_of_numbers src.now) }
 {
-    let mut i: usize = 0;
-    while i < src.len() {
-        put_pair(src[i], at + 2 * i, out);
-        i += 1;
-    }
+    put(src, at, out);
 }

@@ -1,6 +1,8 @@
 #![tactic(auto)]
 // Lists that are lent as little-endian bytes.
 pub mod bytes;
+pub mod element;
+pub mod held;
 pub mod lent;
 pub mod optional;
 pub mod picks;

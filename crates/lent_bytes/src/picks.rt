@@ -4,6 +4,7 @@ ghost use Rattle.lent_bytes.specs.Picks.{picks_from};
 
 use task::picks::Picks;
 
+// Kept: a `From<u32>` for Picks would have to stand in crate task, which no byte call's number reaches.
 pub fn decode(strict: u32) -> Picks
     ensures { result ≡ picks_from strict }
 {

@@ -1,38 +1,41 @@
 // The sheet's four lists, decoded in one place: every byte call that is lent a sheet asks here.
-ghost use Rattle.lent_bytes.specs.SheetLists.{SheetHeld, sheet_in};
+ghost use Rattle.std.specs.Prelude.{◌≡◌, []};
+ghost use Rattle.lent_bytes.specs.SheetLists.{sizes_in, codes_in, link_floats_in, limits_in};
 
-use crate::lent;
+use crate::held;
+use crate::held::Held;
 
-// How many elements of each list were decoded.
-#[derive(Clone, Copy)]
-pub struct SheetCounts {
-    pub sizes: usize,
-    pub codes: usize,
-    pub floats: usize,
-    pub limits: usize,
+// Each with room for the longest that is taken.
+#[derive(Drop)]
+pub struct Sheet {
+    pub sizes: Held<u16, 5>,
+    pub codes: Held<u16, 64>,
+    pub floats: Held<f64, 448>,
+    pub limits: Held<f64, 32>,
 }
 
-// Each list goes to the front of its own array, which has room for the longest that is taken.
-pub fn decode(
-    sizes: &[u8],
-    codes: &[u8],
-    floats: &[u8],
-    limits: &[u8],
-    s: &mut [u16; 5],
-    c: &mut [u16; 64],
-    f: &mut [f64; 448],
-    l: &mut [f64; 32],
-) -> SheetCounts
-    ensures { SheetHeld (sheet_in sizes codes floats limits) result s.new c.new f.new l.new }
-{
-    let ns = lent::numbers(sizes, s);
-    let nc = lent::numbers(codes, c);
-    let nf = lent::floats(floats, f);
-    let nl = lent::floats(limits, l);
-    SheetCounts {
-        sizes: ns,
-        codes: nc,
-        floats: nf,
-        limits: nl,
+// Kept: filled in place; a sheet that is returned by value is copied, and loading took twice as long.
+impl Sheet {
+    pub fn empty() -> Self
+        ensures { (result.sizes ≡ []) × (result.codes ≡ []) × (result.floats ≡ []) × (result.limits ≡ []) }
+    {
+        Sheet {
+            sizes: Held::empty(),
+            codes: Held::empty(),
+            floats: Held::empty(),
+            limits: Held::empty(),
+        }
+    }
+
+    pub fn decode(&mut self, sizes: &[u8], codes: &[u8], floats: &[u8], limits: &[u8])
+        ensures sizes { self.new.sizes ≡ sizes_in sizes }
+        ensures codes { self.new.codes ≡ codes_in codes }
+        ensures floats { self.new.floats ≡ link_floats_in floats }
+        ensures limits { self.new.limits ≡ limits_in limits }
+    {
+        held::refill(sizes, &mut self.sizes);
+        held::refill(codes, &mut self.codes);
+        held::refill(floats, &mut self.floats);
+        held::refill(limits, &mut self.limits);
     }
 }

@@ -1,33 +1,24 @@
-// Goals, history and joints, which the calls on the objective are lent beside the sheet, decoded in one place.
-ghost use Rattle.lent_bytes.specs.SheetLists.{TaskHeld, goals_in, history_in, block_in};
+// Goals, history and joints, each decoded in one place with room for the longest that is taken.
+ghost use Rattle.std.specs.Prelude.{◌≡◌};
+ghost use Rattle.lent_bytes.specs.SheetLists.{goals_in, history_in, block_in};
 
-use crate::lent;
+use crate::held;
+use crate::held::Held;
 
-// How many floats of each list were decoded.
-#[derive(Clone, Copy)]
-pub struct TaskCounts {
-    pub goals: usize,
-    pub history: usize,
-    pub joints: usize,
+pub fn goals(b: &[u8]) -> Held<f64, 52>
+    ensures { result ≡ goals_in b }
+{
+    held::decode(b)
 }
 
-// Each list goes to the front of its own array, which has room for the longest that is taken.
-pub fn decode(
-    goals: &[u8],
-    history: &[u8],
-    joints: &[u8],
-    g: &mut [f64; 52],
-    h: &mut [f64; 64],
-    x: &mut [f64; 16],
-) -> TaskCounts
-    ensures { TaskHeld (goals_in goals) (history_in history) (block_in joints) result g.new h.new x.new }
+pub fn history(b: &[u8]) -> Held<f64, 64>
+    ensures { result ≡ history_in b }
 {
-    let ng = lent::floats(goals, g);
-    let nh = lent::floats(history, h);
-    let nx = lent::floats(joints, x);
-    TaskCounts {
-        goals: ng,
-        history: nh,
-        joints: nx,
-    }
+    held::decode(b)
+}
+
+pub fn joints(b: &[u8]) -> Held<f64, 16>
+    ensures { result ≡ block_in b }
+{
+    held::decode(b)
 }

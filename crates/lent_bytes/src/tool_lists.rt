@@ -1,16 +1,24 @@
 // The tools that a call is lent, one list a chain, decoded in one place.
 ghost use Rattle.std.specs.Prelude.{◌≡◌};
-ghost use Rattle.lent_bytes.specs.ToolLists.{seven_from, tool_from, tools_in};
+ghost use Rattle.lent_bytes.specs.ToolLists.{seven_from, tool_from, tool_floats_in, tools_in};
 
-use crate::lent;
+use crate::held::Held;
+use crate::{held, lent};
 use task::lay;
+
+// The floats of a tool's list.
+pub fn floats(b: &[u8]) -> Held<f64, 7>
+    ensures { result ≡ tool_floats_in b }
+{
+    held::decode(b)
+}
 
 // The seven floats of a list, NaNs where it has not seven.
 fn seven(b: &[u8]) -> [f64; 7]
     ensures { result ≡ seven_from b.now }
 {
     let mut t = [0.0; 7];
-    let n = lent::floats(b, &mut t);
+    let n = lent::decode(b, &mut t);
     if n == 7 {
         return t;
     }

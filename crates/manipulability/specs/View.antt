@@ -5,6 +5,7 @@ use Rattle.lists.specs.Tests.{and-true}
 use Rattle.geometry.specs.declared.pose.Pose.{Pose}
 use Rattle.spacetime.specs.Floats.{pose_at}
 use Rattle.spacetime.specs.Walk.{pose_if, list_pose}
+use Rattle.manipulability.specs.declared.view.Poses.{Poses}
 
 -- link l was walked again
 unfoldable pub walked_again : ℕ → ℕ → ℕ → Bool
@@ -18,6 +19,13 @@ view_of base tail from to l = pose_if (walked_again from to l) (pose_at tail (7 
 pub record View (base tail : List Float) (from to n : ℕ) : Type 0 where
   pub first : 7 * n ≤ length base
   pub again : 7 * (to - from) ≤ length tail
+
+-- of the code's struct: the poses that it shows, and that it has n links
+abbrev pub seen_by : Poses → ℕ → Pose
+seen_by v = view_of v.base.now v.tail.now v.from v.to
+
+abbrev pub HasLinks : Poses → ℕ → Type 0
+HasLinks v n = View v.base.now v.tail.now v.from v.to n
 
 -- ---- laws
 pub walked-true : (from to l : ℕ) → walked_again from to l ≡ true → (from ≤ l) × (l < to)

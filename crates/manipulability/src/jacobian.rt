@@ -3,10 +3,10 @@ ghost use Rattle.std.specs.Prelude.{◌≡◌, ◌+◌, ◌-◌, ◌*◌, ◌≤
 ghost use Rattle.lists.specs.Splice.{splice};
 ghost use Rattle.lists.specs.Listed.{listed};
 ghost use Rattle.sheet.specs.Chain.{joints_of, joints_in};
-ghost use Rattle.manipulability.specs.View.{view_of, View};
+ghost use Rattle.manipulability.specs.View.{seen_by, HasLinks};
 ghost use Rattle.manipulability.specs.Jacobian.{axis_piece, axes_of, filling_of, unit_of, start_filling, axis_vector, column_of, filled_of, turns_at, step_at, jacobian_of, manipulability_in, Part};
 
-use crate::view;
+use crate::view::Poses;
 use geometry::pose::Pose;
 use geometry::quaternion::Quat;
 use geometry::vector::Vec3;
@@ -42,12 +42,9 @@ fn joint_axes(codes: &[u16], first: usize, end: usize) -> [u16; 16]
     ensures { take (joints_in codes.now first end) result ≡ axes_of codes.now first (end - first) }
 {
     let mut axes = [0u16; 16];
-    let n = end - first;
     let mut joint: usize = 0;
-    let mut i: usize = 0;
-    while i < n {
-        joint = put_axis(codes, first + i, &mut axes, joint);
-        i += 1;
+    for link in first..end {
+        joint = put_axis(codes, link, &mut axes, joint);
     }
     axes
 }
@@ -64,10 +61,8 @@ fn unit(i: usize) -> f64
 fn identity(j: &mut [f64])
     ensures { j.new ≡ listed unit_of (length j.old) }
 {
-    let mut i = 0;
-    while i < j.len() {
-        j[i] = unit(i);
-        i += 1;
+    for (i, x) in j.iter_mut().enumerate() {
+        *x = unit(i);
     }
 }
 
@@ -137,57 +132,41 @@ fn step(
 }
 
 // Fills the identity's columns, link after link; the last link is skipped.
-fn columns(
-    codes: &[u16],
-    base: &[f64],
-    tail: &[f64],
-    from: usize,
-    to: usize,
-    first: usize,
-    end: usize,
-    axes: &[u16],
-    j: &mut [f64],
-)
+fn columns(codes: &[u16], poses: Poses<'_>, first: usize, end: usize, axes: &[u16], j: &mut [f64])
     requires part { Part codes.now first end × (first < end) }
-    requires view { View base.now tail.now from to (length codes.now) }
+    requires view { HasLinks poses (length codes.now) }
     requires axes_value { (axes.now ≡ axes_of codes.now first (end - first)) × (j.old ≡ (start_filling (joints_in codes.now first end)).matrix) }
-    ensures { j.new ≡ jacobian_of (view_of base.now tail.now from to) codes.now first end }
+    ensures { j.new ≡ jacobian_of (seen_by poses.entry) codes.now first end }
 {
-    let last = view::pose(base, tail, from, to, end - 1);
+    let last = poses.pose(end - 1);
     let position = last.position;
-    let n = end - first - 1;
     let mut s = Fill {
         column: 0,
         axis: vector::zero(),
     };
-    let mut i: usize = 0;
-    while i < n {
-        let p = view::pose(base, tail, from, to, first + i);
-        s = step(codes, first + i, p, position, axes, s, j);
-        i += 1;
+    for link in first..end - 1 {
+        let p = poses.pose(link);
+        s = step(codes, link, p, position, axes, s, j);
     }
 }
 
 // The Jacobian of the chain from `first` on, below `end`, by columns of six floats.
 pub fn get_jacobian_immutable(
     codes: &[u16],
-    base: &[f64],
-    tail: &[f64],
-    from: usize,
-    to: usize,
+    poses: Poses<'_>,
     first: usize,
     end: usize,
     j: &mut [f64],
 )
     requires part { Part codes.now first end × (first < end) }
-    requires view { View base.now tail.now from to (length codes.now) }
+    requires view { HasLinks poses (length codes.now) }
     requires j_len { length j.old ≡ 6 * joints_in codes.now first end }
-    ensures { j.new ≡ jacobian_of (view_of base.now tail.now from to) codes.now first end }
+    ensures { j.new ≡ jacobian_of (seen_by poses.entry) codes.now first end }
 {
     let all = joint_axes(codes, first, end);
     let n = j.len() / 6;
     identity(j);
-    columns(codes, base, tail, from, to, first, end, &all[..n], j);
+    columns(codes, poses, first, end, &all[..n], j);
 }
 
 // Room for the columns of 16 joints.
@@ -200,16 +179,13 @@ fn room() -> [f64; 96]
 // A chain's manipulability: 0 for fewer than six joints.
 pub fn get_manipulability_immutable(
     codes: &[u16],
-    base: &[f64],
-    tail: &[f64],
-    from: usize,
-    to: usize,
+    poses: Poses<'_>,
     first: usize,
     end: usize,
 ) -> f64
     requires part { Part codes.now first end }
-    requires view { View base.now tail.now from to (length codes.now) }
-    ensures { result ≡ manipulability_in (view_of base.now tail.now from to) codes.now first end }
+    requires view { HasLinks poses (length codes.now) }
+    ensures { result ≡ manipulability_in (seen_by poses.entry) codes.now first end }
 {
     let n = chain::joint_number(codes, end) - chain::joint_number(codes, first);
     if n < 6 {
@@ -217,7 +193,7 @@ pub fn get_manipulability_immutable(
     }
     let mut a = room();
     let w = 6 * n;
-    get_jacobian_immutable(codes, base, tail, from, to, first, end, &mut a[..w]);
+    get_jacobian_immutable(codes, poses, first, end, &mut a[..w]);
     let d = matrix::determinant(matrix::gram(&a[..w]));
     root::sqrt(cut::cut(d))
 }

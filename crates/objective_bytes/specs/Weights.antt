@@ -15,8 +15,7 @@ use Rattle.gradient.specs.declared.slopes.Rule.{Rule}
 use Rattle.calls.specs.Weights.{built_in, priors-pass, built-in-same}
 use Rattle.lent_bytes.specs.Bytes.{float_at}
 use Rattle.lent_bytes.specs.Lent.{count_in, floats_in, bytes_of_each, bytes_of}
-use Rattle.lent_bytes.specs.declared.optional.Optional.TheVariants.{Empty, Floats, WrongLength}
-use Rattle.lent_bytes.specs.Optional.{optional_in, left_out, only-left-out}
+use Rattle.lent_bytes.specs.Optional.{Empty, Floats, WrongLength, optional_in, left_out, only-left-out}
 use Rattle.lent_bytes.specs.SheetLists.{SheetLists}
 use Rattle.arm_bytes.specs.ArmCalls.{tools_number}
 use Rattle.objective_bytes.specs.ObjectiveCalls.{weights_from, in_force_from, TaskLists, optional_number, given_lent, value_in, slopes_in}

@@ -2,6 +2,7 @@
 ghost use Rattle.std.specs.Prelude.{◌≡◌, ◌*◌, ◌≤◌, length, take, [], ◌∷◌};
 ghost use Rattle.lists.specs.Splice.{splice};
 ghost use Rattle.refusals.specs.Lowest.{first_of};
+ghost use Rattle.refusals.specs.Number.{number_of};
 ghost use Rattle.refusals.specs.Refusal.{chains_of, weights_refusal, tools_refusal};
 ghost use Rattle.lent_bytes.specs.Lent.{room_in, bytes_of};
 ghost use Rattle.lent_bytes.specs.SheetLists.{sheet_with, sheet_of, room_of};
@@ -9,15 +10,17 @@ ghost use Rattle.arm_bytes.specs.ArmCalls.{output_of};
 ghost use Rattle.objective_bytes.specs.ObjectiveCalls.{task_with, task_of, task_number, objective_number, slopes_number, value_in, objective_value, slopes_in};
 ghost use Rattle.objective_bytes.specs.ObjectiveLaws.{Passed};
 
-use arm_bytes::tools::tools_number;
+use arm_bytes::tools::tools_refusal;
 use gradient::slopes::Rule;
 use gradient::{gradient as slopes_of, value as value_of};
 use lent_bytes::lent as bytes_lent;
+use refusals::refusal::Refusal;
 use refusals::{lengths, lent, load, shape};
 use task::lay;
 use task::picks::Picks;
 
-pub fn task_number(
+#[tactic(auto, using(arm_bytes::specs::ArmLaws::sheets), unfolding(refusals::specs::Lowest::first_of, crate::specs::ObjectiveCalls::task_number))]
+pub fn task_refusal(
     sizes: &[u16],
     codes: &[u16],
     floats: &[f64],
@@ -25,29 +28,27 @@ pub fn task_number(
     goals: &[f64],
     history: &[f64],
     joints: &[f64],
-) -> u16
-    ensures { result ≡ task_number (sheet_of sizes codes floats limits) goals.now history.now joints.now }
+) -> Result<(), Refusal>
+    ensures { number_of result ≡ task_number (sheet_of sizes codes floats limits) goals.now history.now joints.now }
 {
-    let load = load::load_refusal(sizes, codes, floats, limits);
-    if load != 0 {
-        return load;
-    }
-    let first = lent::block_refusal(codes, joints);
-    let second = lent::history_refusal(codes, history);
-    let seven = lent::first_of(first, second);
-    let eight = lent::goals_refusal(sizes[0] as usize, goals);
-    lent::first_of(seven, eight)
+    load::load_refusal(sizes, codes, floats, limits)?;
+    lent::block_refusal(codes, joints)?;
+    lent::history_refusal(codes, history)?;
+    lent::goals_refusal(sizes[0] as usize, goals)
 }
 
 // Of the lists that may be left out.
-pub fn optional_number(sizes: &[u16], weights: &[f64], tools: &[f64; 32]) -> u16
-    ensures { result ≡ first_of (weights_refusal weights.now) (tools_refusal (chains_of sizes.now) tools.now) }
+#[tactic(auto, unfolding(refusals::specs::Lowest::first_of))]
+pub fn optional_refusal(sizes: &[u16], weights: &[f64], tools: &[f64; 32]) -> Result<(), Refusal>
+    ensures { number_of result ≡ first_of (weights_refusal weights.now) (tools_refusal (chains_of sizes.now) tools.now) }
 {
-    lent::first_of(lent::weights_refusal(weights), tools_number(sizes, tools))
+    lent::weights_refusal(weights)?;
+    tools_refusal(sizes, tools)
 }
 
 // Sizes of outputs are in bytes.
-fn slopes_number(
+#[tactic(auto, unfolding(refusals::specs::Lowest::first_of, crate::specs::ObjectiveCalls::optional_number, crate::specs::ObjectiveCalls::slopes_number))]
+fn slopes_refusal(
     sizes: &[u16],
     codes: &[u16],
     floats: &[f64],
@@ -60,19 +61,15 @@ fn slopes_number(
     scratch: usize,
     value: usize,
     slopes: usize,
-) -> u16
-    ensures { result ≡ slopes_number (sheet_of sizes codes floats limits) (task_of goals history weights tools) joints.now (room_in scratch) (room_in value) (room_in slopes) }
+) -> Result<(), Refusal>
+    ensures { number_of result ≡ slopes_number (sheet_of sizes codes floats limits) (task_of goals history weights tools) joints.now (room_in scratch) (room_in value) (room_in slopes) }
 {
-    let of_task = task_number(sizes, codes, floats, limits, goals, history, joints);
+    task_refusal(sizes, codes, floats, limits, goals, history, joints)?;
     let n = lengths::block_length(codes);
-    let first = lent::room_refusal(n, bytes_lent::room(scratch));
-    let second = lent::room_refusal(1, bytes_lent::room(value));
-    let third = lent::room_refusal(n, bytes_lent::room(slopes));
-    let last = optional_number(sizes, weights, tools);
-    lent::first_of(
-        of_task,
-        lent::first_of(first, lent::first_of(second, lent::first_of(third, last))),
-    )
+    lent::room_refusal(n, bytes_lent::room(scratch))?;
+    lent::room_refusal(1, bytes_lent::room(value))?;
+    lent::room_refusal(n, bytes_lent::room(slopes))?;
+    optional_refusal(sizes, weights, tools)
 }
 
 fn value_on(
@@ -163,6 +160,7 @@ fn put_answers(
     bytes_lent::put_floats(&d[..n], 0, slopes);
 }
 
+#[tactic(auto, unfolding(refusals::specs::Lowest::first_of, calls::specs::Arms::if_taken, crate::specs::ObjectiveCalls::optional_number, crate::specs::ObjectiveCalls::objective_number))]
 pub(crate) fn objective(
     sizes: &[u16],
     codes: &[u16],
@@ -175,24 +173,21 @@ pub(crate) fn objective(
     picks: Picks,
     joints: &[f64],
     value: &mut [u8],
-) -> u16
-    ensures number { result ≡ objective_number (sheet_of sizes codes floats limits) (task_of goals history weights tools) joints.now (room_of value) }
-    ensures value { value.new ≡ output_of result value (objective_value (sheet_of sizes codes floats limits) (task_of goals history weights tools) picks joints.now) }
+) -> Result<(), Refusal>
+    ensures number { number_of result ≡ objective_number (sheet_of sizes codes floats limits) (task_of goals history weights tools) joints.now (room_of value) }
+    ensures value { value.new ≡ output_of (number_of result) value (objective_value (sheet_of sizes codes floats limits) (task_of goals history weights tools) picks joints.now) }
 {
-    let of_task = task_number(sizes, codes, floats, limits, goals, history, joints);
-    let nine = lent::room_refusal(1, bytes_lent::room(value.len()));
-    let last = optional_number(sizes, weights, tools);
-    let number = lent::first_of(of_task, lent::first_of(nine, last));
-    if number != 0 {
-        return number;
-    }
+    task_refusal(sizes, codes, floats, limits, goals, history, joints)?;
+    lent::room_refusal(1, bytes_lent::room(value.len()))?;
+    optional_refusal(sizes, weights, tools)?;
     let one = [value_on(
         sizes, codes, floats, limits, goals, history, weights, tools, picks, joints,
     )];
     bytes_lent::put_floats(&one, 0, value);
-    0
+    Ok(())
 }
 
+#[tactic(auto, unfolding(refusals::specs::Lowest::first_of, calls::specs::Arms::if_taken))]
 pub(crate) fn gradient(
     rule: Rule,
     sizes: &[u16],
@@ -208,13 +203,13 @@ pub(crate) fn gradient(
     scratch: &mut [u8],
     value: &mut [u8],
     slopes: &mut [u8],
-) -> u16
-    ensures number { result ≡ slopes_number (sheet_of sizes codes floats limits) (task_of goals history weights tools) joints.now (room_of scratch) (room_of value) (room_of slopes) }
-    ensures scratch { scratch.new ≡ output_of result scratch joints.now }
-    ensures value { value.new ≡ output_of result value (objective_value (sheet_of sizes codes floats limits) (task_of goals history weights tools) picks joints.now) }
-    ensures slopes { slopes.new ≡ output_of result slopes (slopes_in rule (sheet_of sizes codes floats limits) (task_of goals history weights tools) picks joints.now) }
+) -> Result<(), Refusal>
+    ensures number { number_of result ≡ slopes_number (sheet_of sizes codes floats limits) (task_of goals history weights tools) joints.now (room_of scratch) (room_of value) (room_of slopes) }
+    ensures scratch { scratch.new ≡ output_of (number_of result) scratch joints.now }
+    ensures value { value.new ≡ output_of (number_of result) value (objective_value (sheet_of sizes codes floats limits) (task_of goals history weights tools) picks joints.now) }
+    ensures slopes { slopes.new ≡ output_of (number_of result) slopes (slopes_in rule (sheet_of sizes codes floats limits) (task_of goals history weights tools) picks joints.now) }
 {
-    let number = slopes_number(
+    slopes_refusal(
         sizes,
         codes,
         floats,
@@ -227,10 +222,7 @@ pub(crate) fn gradient(
         scratch.len(),
         value.len(),
         slopes.len(),
-    );
-    if number != 0 {
-        return number;
-    }
+    )?;
     let mut x = [0.0; 16];
     let mut d = [0.0; 16];
     let v = slopes_on(
@@ -238,5 +230,5 @@ pub(crate) fn gradient(
         &mut d,
     );
     put_answers(&x, v, &d, joints.len(), scratch, value, slopes);
-    0
+    Ok(())
 }

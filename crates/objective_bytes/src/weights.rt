@@ -1,22 +1,26 @@
 // The weights that a call on the objective is lent.
-ghost use Rattle.lent_bytes.specs.Lent.{Front};
-ghost use Rattle.objective_bytes.specs.ObjectiveCalls.{in_force_from};
+ghost use Rattle.std.specs.Prelude.{◌≡◌};
+ghost use Rattle.objective_bytes.specs.ObjectiveCalls.{weights_in, in_force_from};
 
-use lent_bytes::optional;
-use lent_bytes::optional::Optional;
+use lent_bytes::held::Held;
+use lent_bytes::{held, optional};
 use objective_master::weights;
 
-// The weights in force go to the front of `w`: of a list that is left out, the built-in ones.
-pub fn decode(b: &[u8], w: &mut [f64; 8]) -> usize
-    ensures { Front (in_force_from b.now) w.new result }
+// As they are lent.
+pub fn given(b: &[u8]) -> Held<f64, 8>
+    ensures { result ≡ weights_in b }
 {
-    match optional::floats(b, w) {
-        Optional::Empty => {
-            let built_in = weights::weight_priors();
-            lists::copy_floats(&built_in, w);
-            return 8;
-        }
-        Optional::Floats(n) => return n,
-        Optional::WrongLength => return 0,
+    held::decode(b)
+}
+
+// Those in force: of a list that is left out, the built-in ones.
+pub fn decode(b: &[u8]) -> Held<f64, 8>
+    ensures { result ≡ in_force_from b.now }
+{
+    let mut w = [0.0; 8];
+    match optional::floats(b, &mut w) {
+        Ok(Some(n)) => Held::new(w, n),
+        Ok(None) => Held::new(weights::weight_priors(), 8),
+        Err(_) => Held::new(w, 0),
     }
 }

@@ -1,5 +1,5 @@
 -- Losses that stand already: those of objectives that read no link that was walked again, and no joint that was raised.
-use Rattle.std.specs.Prelude.{◌≡◌, Bool, ◌||◌, eqb, Float, take, drop}
+use Rattle.std.specs.Prelude.{◌≡◌, Bool, Option, Some, None, eqb, Float, take, drop}
 use Rattle.std.proofs.Math.Path.{refl, ap}
 use Rattle.std.proofs.Common.{sym, ◌∙◌, length-append, length-drop, take-append-drop, ext_get_or, length-take-le, get_or-take, get_or-drop, drop-drop}
 use Rattle.std.proofs.Math.Bool.{true, false}
@@ -26,27 +26,28 @@ use Rattle.objective_master.specs.Losses.{loss_of, losses_of, objectives_of, pos
 unfoldable pub end_again : List ℕ → ℕ → ℕ → ℕ → Bool
 end_again ns from to c = walked_again from to (chain_start ns c + get_or ns c 0 - 1)
 
--- joint j was raised; 65535: all joints are new
-unfoldable pub is_raised : ℕ → ℕ → Bool
-is_raised joint j = eqb joint 65535 || eqb joint j
+-- joint j was raised; none: all joints are new
+unfoldable pub is_raised : Option ℕ → ℕ → Bool
+is_raised None j = true
+is_raised (Some joint) j = eqb joint j
 
 -- the objective reads a link that was walked again, or the raised joint
-unfoldable pub touched : List ℕ → ℕ → ℕ → ℕ → Objective → Bool
-touched ns from to joint (MatchEEPosiDoF c a) = end_again ns from to c
-touched ns from to joint (MatchEERotaDoF c a) = end_again ns from to c
-touched ns from to joint (MatchEEPosGoals c) = end_again ns from to c
-touched ns from to joint (MatchEEQuatGoals c) = end_again ns from to c
-touched ns from to joint (EachJointLimits j) = is_raised joint j
-touched ns from to joint MinimizeVelocity = true
-touched ns from to joint MinimizeAcceleration = true
-touched ns from to joint MinimizeJerk = true
-touched ns from to joint MaximizeManipulability = true
-touched ns from to joint (SelfCollision arm j k) = leb from (pair_last ns (pair arm j k))
+unfoldable pub touched : List ℕ → ℕ → ℕ → Option ℕ → Objective → Bool
+touched ns from to raised (MatchEEPosiDoF c a) = end_again ns from to c
+touched ns from to raised (MatchEERotaDoF c a) = end_again ns from to c
+touched ns from to raised (MatchEEPosGoals c) = end_again ns from to c
+touched ns from to raised (MatchEEQuatGoals c) = end_again ns from to c
+touched ns from to raised (EachJointLimits j) = is_raised raised j
+touched ns from to raised MinimizeVelocity = true
+touched ns from to raised MinimizeAcceleration = true
+touched ns from to raised MinimizeJerk = true
+touched ns from to raised MaximizeManipulability = true
+touched ns from to raised (SelfCollision arm j k) = leb from (pair_last ns (pair arm j k))
 
 -- there is room for the losses, and those of objectives that are not touched stand there
-pub record Cached (g : Given) (P : ℕ → Pose) (x : List Float) (from to joint : ℕ) (out : List Float) : Type 0 where
+pub record Cached (g : Given) (P : ℕ → Pose) (x : List Float) (from to : ℕ) (raised : Option ℕ) (out : List Float) : Type 0 where
   pub room : length (objectives_of g) ≤ length out
-  pub cached : (i : ℕ) → get_or (map (touched g.counts from to joint) (objectives_of g)) i true ≡ false → get_or out i nan ≡ get_or (losses_of g P x) i nan
+  pub cached : (i : ℕ) → get_or (map (touched g.counts from to raised) (objectives_of g)) i true ≡ false → get_or out i nan ≡ get_or (losses_of g P x) i nan
 
 -- how many a chain's goal has
 abbrev pub width_in : Given → ℕ
@@ -118,7 +119,7 @@ behind xs cur ys i h e l =
     ap (λ (c : List Float). get_or c i nan) e ∙ ap (λ (k : ℕ). get_or (splice xs 0 ys) k nan) (sym z)
     ∙ get_or-splice-after xs 0 ys (i - length ys) nan (omega arith) ∙ ap (λ (k : ℕ). get_or xs k nan) z
 
-module _ (g : Given) (P : ℕ → Pose) (x : List Float) (from to joint : ℕ) (xs : List Float) (s : Cached g P x from to joint xs)
+module _ (g : Given) (P : ℕ → Pose) (x : List Float) (from to : ℕ) (raised : Option ℕ) (xs : List Float) (s : Cached g P x from to raised xs)
     (w : total g.counts ≡ length g.codes) (v : length x ≡ joints g.codes) where
   abbrev ns : List ℕ
   ns = g.counts
@@ -127,7 +128,7 @@ module _ (g : Given) (P : ℕ → Pose) (x : List Float) (from to joint : ℕ) (
   lens = chain_lengths g.counts g.codes
 
   abbrev T : Objective → Bool
-  T = touched g.counts from to joint
+  T = touched g.counts from to raised
 
   abbrev strict : Bool
   strict = g.picks.strict
@@ -171,7 +172,7 @@ module _ (g : Given) (P : ℕ → Pose) (x : List Float) (from to joint : ℕ) (
 
   module _ (cur : List Float) (len : length cur ≡ length xs) where
     pub limits-cached : (at : ℕ) → at ≡ length ns * width_in g → ((i : ℕ) → at ≤ i → get_or cur i nan ≡ get_or xs i nan)
-        → CachedPieces (limit_losses g.limits x) 1 (is_raised joint) at (length x) cur
+        → CachedPieces (limit_losses g.limits x) 1 (is_raised raised) at (length x) cur
     unfolding losses_of loss_of touched limit_losses
     limits-cached at e same =
         record {

@@ -1,5 +1,5 @@
 -- Theorems on standing losses: what is asked where nothing stands, and whose losses stand.
-use Rattle.std.specs.Prelude.{◌≡◌, Bool, Float}
+use Rattle.std.specs.Prelude.{◌≡◌, Bool, Option, None, Float}
 use Rattle.std.proofs.Math.Path.{refl, sym, ap}
 use Rattle.std.proofs.Common.{subst, ◌∙◌, true≢false, arith}
 use Rattle.std.proofs.Math.Bool.{true, false}
@@ -8,7 +8,7 @@ use mathlib.Core.List.{List, [], ◌∷◌, map}
 use Prim.Native.Nat.{ℕ, suc, ◌+◌, ◌-◌, ◌*◌, ◌≤◌, ◌<◌}
 use Rattle.std.specs.Float.Ieee.{nan}
 use Rattle.std.proofs.Math.ListN.{length, get_or, length-map, get_or-eq_default}
-use borrow.Author.Tests.{lt-ltb, le-leb, lt-leb, leb-false, eq-eqb}
+use borrow.Author.Tests.{lt-ltb, le-leb, lt-leb, leb-false}
 use Rattle.geometry.specs.declared.pose.Pose.{Pose}
 use Rattle.task.specs.Task.{Given}
 use Rattle.sheet.specs.Chain.{total, chain_start, below_or}
@@ -34,7 +34,7 @@ module _ (g : Given) (chains : Chains g.counts) where
   list₀ = picked_list g.picks
 
   abbrev T₀ : Objective → Bool
-  T₀ = touched g.counts 0 (total g.counts) 65535
+  T₀ = touched g.counts 0 (total g.counts) None
 
   end-new : (c : ℕ) → c < length lens₀ → end_again g.counts 0 (total g.counts) c ≡ true
   unfolding end_again walked_again
@@ -51,24 +51,24 @@ module _ (g : Given) (chains : Chains g.counts) where
       (λ (l : i < length (objectives list₀ lens₀)).
       map_at T₀ (objectives list₀ lens₀) i MinimizeVelocity true l
       ∙ objectives-each (λ (o : Objective). T₀ o ≡ true) list₀ lens₀ (λ c h. every-goal (λ (o : Objective). T₀ o ≡ true) g.picks.strict c (λ a. end-new c h) (λ a. end-new c h) (end-new c h) (end-new c h))
-      (λ j h. rw (eq-eqb 65535 65535 refl)) refl refl refl refl (λ c j k h a b. le-leb 0 (pair_last g.counts (pair (first_arm c) j k)) (omega arith)) i l)
+      (λ j h. refl) refl refl refl refl (λ c j k h a b. le-leb 0 (pair_last g.counts (pair (first_arm c) j k)) (omega arith)) i l)
       (λ (l : length (objectives list₀ lens₀) ≤ i). get_or-eq_default (map T₀ (objectives list₀ lens₀)) true (omega (arith, length-map (objectives list₀ lens₀) T₀)))
       (below_or i (length (objectives list₀ lens₀)))
 
-  pub cached-new : (P : ℕ → Pose) (x out : List Float) → length (objectives_of g) ≤ length out → Cached g P x 0 (total g.counts) 65535 out
+  pub cached-new : (P : ℕ → Pose) (x out : List Float) → length (objectives_of g) ≤ length out → Cached g P x 0 (total g.counts) None out
   cached-new P x out h = record { room = h; cached = λ i q. absurd (true≢false (sym (all_new i) ∙ q)) }
 
-  pub cached-at : (P : ℕ → Pose) (x out : List Float) {to : ℕ} → to ≡ total g.counts → length (objectives_of g) ≤ length out → Cached g P x 0 to 65535 out
-  cached-at P x out e h = subst (λ (k : ℕ). Cached g P x 0 k 65535 out) (sym e) (cached-new P x out h)
+  pub cached-at : (P : ℕ → Pose) (x out : List Float) {to : ℕ} → to ≡ total g.counts → length (objectives_of g) ≤ length out → Cached g P x 0 to None out
+  cached-at P x out e h = subst (λ (k : ℕ). Cached g P x 0 k None out) (sym e) (cached-new P x out h)
 
 -- ---- poses P and joints x, walked again as Q and raised to y: the losses of the first stand for the second
-module _ (g : Given) (P Q : ℕ → Pose) (x y : List Float) (from to joint : ℕ) (poses : (l : ℕ) → walked_again from to l ≡ false → P l ≡ Q l)
-    (values : (j : ℕ) → is_raised joint j ≡ false → get_or x j nan ≡ get_or y j nan) (numbers : any_nan x ≡ any_nan y) where
+module _ (g : Given) (P Q : ℕ → Pose) (x y : List Float) (from to : ℕ) (raised : Option ℕ) (poses : (l : ℕ) → walked_again from to l ≡ false → P l ≡ Q l)
+    (values : (j : ℕ) → is_raised raised j ≡ false → get_or x j nan ≡ get_or y j nan) (numbers : any_nan x ≡ any_nan y) where
   abbrev os : List Objective
   os = objectives (picked_list g.picks) (chain_lengths g.counts g.codes)
 
   abbrev T : Objective → Bool
-  T = touched g.counts from to joint
+  T = touched g.counts from to raised
 
   before : (l : ℕ) → l < from → P l ≡ Q l
   unfolding walked_again
@@ -95,7 +95,7 @@ module _ (g : Given) (P Q : ℕ → Pose) (x y : List Float) (from to joint : �
       ∙ ap (λ (n : Bool). pair_loss g.counts Q n p) numbers)
 
   pub cached-again : (out : List Float) → length os ≤ length out → ((i : ℕ) → i < length os → get_or out i nan ≡ get_or (losses_of g P x) i nan)
-      → Cached g Q y from to joint out
+      → Cached g Q y from to raised out
   unfolding losses_of
   cached-again out room stood =
       record {

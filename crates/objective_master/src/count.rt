@@ -8,16 +8,14 @@ use crate::relaxed_ik;
 use sheet::chain;
 use task::picks::Picks;
 
-// The pairs that a chain of n joints adds.
+// The pairs that a chain of n joints adds: link k with each before its neighbour.
 fn pair_count(n: usize) -> usize
     requires { n ≤ 16 }
     ensures { (result ≡ triangle (n - 2)) × (result ≤ 256) }
 {
     let mut s: usize = 0;
-    let mut j: usize = 0;
-    while j + 2 < n {
-        s += n - (j + 2);
-        j += 1;
+    for k in 2..n {
+        s += k - 1;
     }
     s
 }
@@ -29,14 +27,12 @@ pub fn objective_count(counts: &[u16], codes: &[u16], picks: Picks) -> usize
     let mut s: usize = 0;
     let mut l: usize = 0;
     let mut joint: usize = 0;
-    let mut c = 0;
-    while c < counts.len() {
-        let end = l + counts[c] as usize;
+    for count in counts {
+        let end = l + *count as usize;
         let next = chain::joint_number(codes, end);
         s += pair_count(next - joint);
         l = end;
         joint = next;
-        c += 1;
     }
     relaxed_ik::goals_to(picks, counts.len()) + joint + 4 + s
 }

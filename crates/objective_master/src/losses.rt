@@ -7,7 +7,7 @@ ghost use Rattle.task.specs.Task.{task_length, xopt_of, prev_state_of, prev_stat
 ghost use Rattle.spacetime.specs.Floats.{flat_vec};
 ghost use Rattle.spacetime.specs.Tool.{tip_of};
 ghost use Rattle.spacetime.specs.Frames.{Chains};
-ghost use Rattle.manipulability.specs.View.{view_of, View, walked_again};
+ghost use Rattle.manipulability.specs.View.{seen_by, HasLinks, walked_again};
 ghost use Rattle.manipulability.specs.Jacobian.{Counted};
 ghost use Rattle.objective_master.specs.Objective.{goal_width};
 ghost use Rattle.objective_master.specs.Losses.{tolerance_at, off_goal, turn_from_goal, off_losses, turn_losses, strict_losses, pose_losses, goal_losses, limit_losses, change_losses, motion_losses, losses_of, Lent};
@@ -18,20 +18,13 @@ use geometry::pose::Pose;
 use geometry::vector::Vec3;
 use geometry::{quaternion, vector};
 use groove::objective;
-use manipulability::{robot, view};
+use manipulability::robot;
+use manipulability::view::Poses;
 use self_collision::pairs;
 use spacetime::{floats, tool};
 use standins::cut;
 use task::parts;
 use task::picks::Picks;
-
-// What was walked again: the links from..to, with `joint` raised. All links are new in a first walk, and so are all joints (65535).
-#[derive(Clone, Copy)]
-pub struct Walked {
-    pub from: usize,
-    pub to: usize,
-    pub joint: usize,
-}
 
 fn tolerance(goals: &[f64], c: usize, a: usize) -> f64
     requires { 13 * c + 7 + a < length goals.now }
@@ -122,9 +115,7 @@ fn put_pose_losses(goals: &[f64], c: usize, end: Pose, picks: Picks, at: usize, 
 fn put_goal(
     goals: &[f64],
     tools: &[f64],
-    base: &[f64],
-    tail: &[f64],
-    walked: Walked,
+    poses: Poses<'_>,
     link: usize,
     c: usize,
     picks: Picks,
@@ -132,14 +123,14 @@ fn put_goal(
     out: &mut [f64],
 )
     requires c_in_bounds { (13 * c + 13 ≤ length goals.now) × (8 * c + 8 ≤ length tools.now) × (at + goal_width picks.strict ≤ length out.old) }
-    requires view { View base.now tail.now walked.from walked.to (link + 1) }
-    requires cached_piece { CachedPiece (walked_again walked.from walked.to link) at
-        (pose_losses picks.strict goals.now c (tip_of tools.now c (view_of base.now tail.now walked.from walked.to link))) out.old }
+    requires view { HasLinks poses (link + 1) }
+    requires cached_piece { CachedPiece (walked_again poses.from poses.to link) at
+        (pose_losses picks.strict goals.now c (tip_of tools.now c (seen_by poses link))) out.old }
     ensures { out.new ≡ splice out.old at
-        (pose_losses picks.strict goals.now c (tip_of tools.now c (view_of base.now tail.now walked.from walked.to link))) }
+        (pose_losses picks.strict goals.now c (tip_of tools.now c (seen_by poses.entry link))) }
 {
-    if view::walked_again(walked.from, walked.to, link) {
-        let last = view::pose(base, tail, walked.from, walked.to, link);
+    if poses.walked_again(link) {
+        let last = poses.pose(link);
         let end = tool::tip(tools, c, last);
         put_pose_losses(goals, c, end, picks, at, out);
         return;
@@ -151,61 +142,56 @@ fn put_goals(
     counts: &[u16],
     goals: &[f64],
     tools: &[f64],
-    base: &[f64],
-    tail: &[f64],
-    walked: Walked,
+    poses: Poses<'_>,
     picks: Picks,
     out: &mut [f64],
 )
     requires chains { Chains counts.now × (13 * length counts.now ≤ length goals.now) × (8 * length counts.now ≤ length tools.now) }
-    requires view { View base.now tail.now walked.from walked.to (total counts.now) }
-    requires cached_pieces { CachedPieces (goal_losses picks.strict counts.now goals.now tools.now (view_of base.now tail.now walked.from walked.to)) (goal_width picks.strict)
-        (end_again counts.now walked.from walked.to) 0 (length counts.now) out.old }
+    requires view { HasLinks poses (total counts.now) }
+    requires cached_pieces { CachedPieces (goal_losses picks.strict counts.now goals.now tools.now (seen_by poses)) (goal_width picks.strict)
+        (end_again counts.now poses.from poses.to) 0 (length counts.now) out.old }
     ensures { out.new ≡ splice out.old 0
-        (runs (goal_losses picks.strict counts.now goals.now tools.now (view_of base.now tail.now walked.from walked.to)) 0 (length counts.now)) }
+        (runs (goal_losses picks.strict counts.now goals.now tools.now (seen_by poses.entry)) 0 (length counts.now)) }
 {
     let mut l: usize = 0;
-    let mut c = 0;
-    while c < counts.len() {
-        let end = l + counts[c] as usize;
+    for (c, count) in counts.iter().enumerate() {
+        let end = l + *count as usize;
         let at = relaxed_ik::goals_to(picks, c);
-        put_goal(goals, tools, base, tail, walked, end - 1, c, picks, at, out);
+        put_goal(goals, tools, poses, end - 1, c, picks, at, out);
         l = end;
-        c += 1;
     }
 }
 
-fn is_raised(joint: usize, j: usize) -> bool
-    ensures { result ≡ is_raised joint j }
+// Joint j was raised; with none, all joints are new.
+fn is_raised(raised: Option<usize>, j: usize) -> bool
+    ensures { result ≡ is_raised raised j }
 {
-    if joint == 65535 {
-        return true;
+    match raised {
+        Some(joint) => joint == j,
+        None => true,
     }
-    joint == j
 }
 
 // Joint j's limits. If another joint was raised, the loss stands already.
-fn put_limit(limits: &[f64], x: &[f64], joint: usize, j: usize, at: usize, out: &mut [f64])
+fn put_limit(limits: &[f64], x: &[f64], raised: Option<usize>, j: usize, at: usize, out: &mut [f64])
     requires j_in_bounds { (j < length x.now) × (2 * j + 2 ≤ length limits.now) × (at < length out.old) }
-    requires cached_piece { CachedPiece (is_raised joint j) at (limit_losses limits.now x.now j) out.old }
+    requires cached_piece { CachedPiece (is_raised raised j) at (limit_losses limits.now x.now j) out.old }
     ensures { out.new ≡ splice out.old at (limit_losses limits.now x.now j) }
 {
-    if is_raised(joint, j) {
+    if is_raised(raised, j) {
         out[at] = objective::each_joint_limits(x[j], limits[2 * j], limits[2 * j + 1]);
         return;
     }
 }
 
-fn put_limits(limits: &[f64], x: &[f64], joint: usize, at: usize, out: &mut [f64])
+fn put_limits(limits: &[f64], x: &[f64], raised: Option<usize>, at: usize, out: &mut [f64])
     requires x_in_bounds { 2 * length x.now ≤ length limits.now }
-    requires cached_pieces { CachedPieces (limit_losses limits.now x.now) 1 (is_raised joint) at (length x.now) out.old }
+    requires cached_pieces { CachedPieces (limit_losses limits.now x.now) 1 (is_raised raised) at (length x.now) out.old }
     ensures { out.new ≡ splice out.old at
         (runs (limit_losses limits.now x.now) 0 (length x.now)) }
 {
-    let mut j: usize = 0;
-    while j < x.len() {
-        put_limit(limits, x, joint, j, at + j, out);
-        j += 1;
+    for j in 0..x.len() {
+        put_limit(limits, x, raised, j, at + j, out);
     }
 }
 
@@ -233,19 +219,17 @@ fn put_motion(
     codes: &[u16],
     task: &[f64],
     x: &[f64],
-    base: &[f64],
-    tail: &[f64],
-    walked: Walked,
+    poses: Poses<'_>,
     at: usize,
     out: &mut [f64],
 )
     requires task_len { (length task.now ≡ task_length) × (length x.now ≤ 16) × (at + 4 ≤ length out.old) }
-    requires counted { Counted counts.now codes.now × View base.now tail.now walked.from walked.to (length codes.now) }
+    requires counted { Counted counts.now codes.now × HasLinks poses (length codes.now) }
     ensures { out.new ≡ splice out.old at
-        (motion_losses (view_of base.now tail.now walked.from walked.to) counts.now codes.now x.now
+        (motion_losses (seen_by poses.entry) counts.now codes.now x.now
         (xopt_of (length x.now) task.now) (prev_state_of (length x.now) task.now) (prev_state2_of (length x.now) task.now)) }
 {
-    let m = robot::get_manipulability_immutable(counts, codes, base, tail, walked.from, walked.to);
+    let m = robot::get_manipulability_immutable(counts, codes, poses);
     put_changes(task, x, at, out);
     out[at + 3] = objective::maximize_manipulability(m);
 }
@@ -258,35 +242,24 @@ pub fn put_losses(
     task: &[f64],
     picks: Picks,
     x: &[f64],
-    base: &[f64],
-    tail: &[f64],
-    walked: Walked,
+    poses: Poses<'_>,
+    raised: Option<usize>,
     out: &mut [f64],
 )
-    requires lent { Lent counts.now codes.now task.now x.now base.now tail.now walked.from walked.to }
-    requires cached { Cached (given_of counts.now codes.now task.now picks) (view_of base.now tail.now walked.from walked.to)
-        x.now walked.from walked.to walked.joint out.old }
+    requires lent { Lent counts.now codes.now task.now x.now poses.base.now poses.tail.now poses.from poses.to }
+    requires cached { Cached (given_of counts.now codes.now task.now picks) (seen_by poses)
+        x.now poses.from poses.to raised out.old }
     ensures { out.new ≡ splice out.old 0
-        (losses_of (given_in counts codes task picks) (view_of base.now tail.now walked.from walked.to) x.now) }
+        (losses_of (given_in counts codes task picks) (seen_by poses.entry) x.now) }
 {
     let goals = parts::goals(task, counts.len());
     let tools = parts::tools(task, counts.len());
-    put_goals(counts, goals, tools, base, tail, walked, picks, out);
+    put_goals(counts, goals, tools, poses, picks, out);
     let n = relaxed_ik::goals_to(picks, counts.len());
     let limits = parts::limits(task, x.len());
-    put_limits(limits, x, walked.joint, n, out);
+    put_limits(limits, x, raised, n, out);
     let m = n + x.len();
-    put_motion(counts, codes, task, x, base, tail, walked, m, out);
+    put_motion(counts, codes, task, x, poses, m, out);
     let any_nan = objective::any_nan(x);
-    pairs::put_pairs(
-        counts,
-        codes,
-        base,
-        tail,
-        walked.from,
-        walked.to,
-        any_nan,
-        m + 4,
-        out,
-    );
+    pairs::put_pairs(counts, codes, poses, any_nan, m + 4, out);
 }

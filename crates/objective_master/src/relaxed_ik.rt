@@ -28,11 +28,7 @@ fn put_kind(kind: u16, n: usize, at: usize, kinds: &mut [u16])
     requires { at + n ≤ length kinds.old }
     ensures { kinds.new ≡ splice kinds.old at (runs (only_kind kind) 0 n) }
 {
-    let mut i: usize = 0;
-    while i < n {
-        kinds[at + i] = kind;
-        i += 1;
-    }
+    kinds[at..at + n].fill(kind);
 }
 
 // How many objectives the goals of so many chains have.
@@ -51,10 +47,10 @@ fn put_goal(picks: Picks, at: usize, kinds: &mut [u16])
     ensures { kinds.new ≡ splice kinds.old at (goal_kinds picks.strict) }
 {
     if picks.strict {
-        lists::copy_numbers(&STRICT_KINDS, &mut kinds[at..]);
+        lists::copy(&STRICT_KINDS, &mut kinds[at..]);
         return;
     }
-    lists::copy_numbers(&TOLERANCE_KINDS, &mut kinds[at..]);
+    lists::copy(&TOLERANCE_KINDS, &mut kinds[at..]);
 }
 
 // The goals of all chains.
@@ -62,11 +58,9 @@ fn put_goals(picks: Picks, chains: usize, kinds: &mut [u16])
     requires { (chains ≤ 4) × (chains * goal_width picks.strict ≤ length kinds.old) }
     ensures { kinds.new ≡ splice kinds.old 0 (runs (λ _. goal_kinds picks.strict) 0 chains) }
 {
-    let mut c: usize = 0;
-    while c < chains {
+    for c in 0..chains {
         let at = goals_to(picks, c);
         put_goal(picks, at, kinds);
-        c += 1;
     }
 }
 
@@ -74,7 +68,7 @@ fn put_motion(at: usize, kinds: &mut [u16])
     requires { at + 4 ≤ length kinds.old }
     ensures { kinds.new ≡ splice kinds.old at motion_kinds }
 {
-    lists::copy_numbers(&MOTION_KINDS, &mut kinds[at..]);
+    lists::copy(&MOTION_KINDS, &mut kinds[at..]);
 }
 
 // Writes the list that was picked to the front of `kinds`, and answers its length.

@@ -38,10 +38,8 @@ pub fn weighted_sum(weights: &[f64], kinds: &[u16], values: &[f64]) -> f64
     ensures { result ≡ weighted_by weights.now kinds.now values.now }
 {
     let mut s = 0.0;
-    let mut i: usize = 0;
-    while i < kinds.len() {
-        s = s + weight(weights, kinds[i] as usize) * values[i];
-        i += 1;
+    for (kind, value) in kinds.iter().zip(values) {
+        s = s + weight(weights, *kind as usize) * *value;
     }
     s
 }

@@ -1,5 +1,5 @@
 -- The slopes: losses of a copy that is read from the record, its own links walked again and the others from the first walk.
-use Rattle.std.specs.Prelude.{◌≡◌, Bool, ◌&&◌, ◌||◌, ◌⊎◌, leb, Float, set, drop}
+use Rattle.std.specs.Prelude.{◌≡◌, Bool, Option, Some, ◌&&◌, ◌⊎◌, leb, Float, set, drop}
 use Rattle.std.proofs.Math.Path.{refl, sym, ap}
 use Rattle.std.proofs.Common.{◌∙◌, inl, inr, ⊎_elim, arith, get_or-take, get_or-drop, get_or-set_other, length-take-le, take_all, lt-ltb, le-ltb, le-leb, eqb-true, eq-eqb, ne_eqb}
 use Rattle.std.proofs.Math.Bool.{true, false, cond, true≢false}
@@ -90,11 +90,11 @@ tail-pose ns cs gs y record₀ frames a k n l e room h b =
 front_at : (rest ys : List Float) (i : ℕ) → i < length ys → get_or (splice rest 0 ys) i nan ≡ get_or ys i nan
 front_at rest ys i h = let z : 0 + i ≡ i = omega arith in rw z at (get_or-splice-in rest 0 ys i nan (omega arith) h)
 
-pub cached-front : (g : Given) (P : ℕ → Pose) (y : List Float) (from to joint n : ℕ) (fs hs cur : List Float) → Cached g P y from to joint fs → n ≡ length (objectives_of g)
-    → n ≤ length fs → n ≤ length hs → cur ≡ splice hs 0 (take n fs) → Cached g P y from to joint cur
-cached-front g P y from to joint n fs hs cur s e h k made =
+pub cached-front : (g : Given) (P : ℕ → Pose) (y : List Float) (from to : ℕ) (raised : Option ℕ) (n : ℕ) (fs hs cur : List Float) → Cached g P y from to raised fs → n ≡ length (objectives_of g)
+    → n ≤ length fs → n ≤ length hs → cur ≡ splice hs 0 (take n fs) → Cached g P y from to raised cur
+cached-front g P y from to raised n fs hs cur s e h k made =
     let t : length (take n fs) ≡ n = length-take-le n fs h in
-    let T : Objective → Bool = touched g.counts from to joint in
+    let T : Objective → Bool = touched g.counts from to raised in
     record {
       room = omega (arith, ap length made, length-splice hs 0 (take n fs) (omega arith));
       cached = λ i q.
@@ -202,15 +202,11 @@ module _ (ns cs : List ℕ) (task : List Float) (picks : Picks) (gs x : List Flo
   raised : y ≡ raised_by step x j
   raised = copy-joint x j (omega (arith, joint-small ns cs gs x ready.sheet k (omega arith)))
 
-  values : (i : ℕ) → is_raised j i ≡ false → get_or x i nan ≡ get_or y i nan
+  values : (i : ℕ) → is_raised (Some j) i ≡ false → get_or x i nan ≡ get_or y i nan
   unfolding is_raised raised_by
   values i q =
-      let ne : i ≡ j → ⊥ = λ e. true≢false (sym (rw (eq-eqb j i (sym e)) (either (eqb j 65535))) ∙ q) in
+      let ne : i ≡ j → ⊥ = λ e. true≢false (sym (eq-eqb j i (sym e)) ∙ q) in
       sym (get_or-set_other x j i (get_or x j nan ⊕ step) nan ne) ∙ ap (λ (z : List Float). get_or z i nan) (sym raised)
-    where
-      either : (b : Bool) → (b || true) ≡ true
-      either true = refl
-      either false = refl
 
   module _ (ks : List ℕ) (fs slopes : List Float) (known : Basis ns cs task picks gs x ks fs slopes) where
     many : length ks ≡ length (objectives_of G)
@@ -218,10 +214,10 @@ module _ (ns cs : List ℕ) (task : List Float) (picks : Picks) (gs x : List Flo
     many = ap length known.kinds ∙ kinds-length picks ns cs
 
     -- the first walk's losses stand where the copy touches nothing
-    pub cached-copy : Cached G seen y k end j fs
+    pub cached-copy : Cached G seen y k end (Some j) fs
     unfolding losses_at given_of
     cached-copy =
-        cached-again G (list_pose frames) seen x y k end j (λ l q. sym (view-outside frames (drop a frames) k end l q)) values
+        cached-again G (list_pose frames) seen x y k end (Some j) (λ l q. sym (view-outside frames (drop a frames) k end l q)) values
         (numbers-raised x j (joint-in-block ns cs gs x ready.sheet k inside turns) ∙ ap any_nan (sym raised))
         fs (omega (arith, many, known.losses-room))
         (λ i l.
@@ -238,7 +234,7 @@ module _ (ns cs : List ℕ) (task : List Float) (picks : Picks) (gs x : List Flo
 
     -- the same, of a block, an end and a joint number that are known to be these
     module _ (block : List Float) (to : ℕ) (is : block ≡ y) (ends : to ≡ end) where
-      pub cached-at : (joint : ℕ) → joint ≡ j → Cached G (view_of frames (drop a frames) k to) block k to joint fs
+      pub cached-at : (joint : ℕ) → joint ≡ j → Cached G (view_of frames (drop a frames) k to) block k to (Some joint) fs
       cached-at joint number = rw (is, ends, number) cached-copy
 
       pub slope-at : slope_to G fs (view_of frames (drop a frames) k to) block ≡ gradient_at G gs x j

@@ -1,5 +1,5 @@
 -- The goal losses that a raised joint touches: those of its own chain, six with tolerances or two strict ones, and none of another chain.
-use Rattle.std.specs.Prelude.{◌≡◌, Bool, true, false, List, length}
+use Rattle.std.specs.Prelude.{◌≡◌, Bool, true, false, Some, List, length}
 use Rattle.std.proofs.Common.{◌∙◌, ⊎_elim, arith}
 use Rattle.std.proofs.Math.Logic.{inl, inr}
 use Prim.Native.Nat.{ℕ, ◌+◌, ◌-◌, ◌≤◌, ◌<◌}
@@ -16,7 +16,7 @@ use Rattle.one_block.specs.Slope.{walked-false}
 module _ (ns cs : List ℕ) (chains : Chains ns) (c k : ℕ) (h : c < length ns) (after : chain_start ns c ≤ k) (before : k < chain_start ns c + get_or ns c 0) where
   -- whether an objective is evaluated again at the turn of k's joint: the links from k to the end of its chain are walked again (see cached-copy)
   abbrev again : Objective → Bool
-  again = touched ns k (end_in ns k) (joint_of cs k)
+  again = touched ns k (end_in ns k) (Some (joint_of cs k))
 
   -- the links walked again end where chain c ends
   pub own-end : end_in ns k ≡ chain_start ns c + get_or ns c 0

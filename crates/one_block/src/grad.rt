@@ -1,11 +1,11 @@
 // The gradient, on the one block that is lent.
-ghost use Rattle.std.specs.Prelude.{◌≡◌, ◌+◌, ◌*◌, ◌≤◌, ◌<◌, length, get_or, take, drop};
+ghost use Rattle.std.specs.Prelude.{◌≡◌, ◌+◌, ◌*◌, ◌≤◌, ◌<◌, Some, length, get_or, take};
 ghost use Rattle.lists.specs.Splice.{splice};
 ghost use Rattle.lists.specs.Runs.{runs};
 ghost use Rattle.sheet.specs.Chain.{total};
 ghost use Rattle.task.specs.Task.{given_of, given_in};
 ghost use Rattle.spacetime.specs.Walk.{Sheet, frames_of};
-ghost use Rattle.manipulability.specs.View.{view_of};
+ghost use Rattle.manipulability.specs.View.{seen_by};
 ghost use Rattle.objective_master.specs.Losses.{Lent};
 ghost use Rattle.objective_master.specs.Kinds.{kinds_of};
 ghost use Rattle.objective_master.specs.Cached.{Cached};
@@ -18,7 +18,7 @@ use crate::walk;
 use crate::walk::Place;
 use geometry::pose;
 use gradient::slopes;
-use objective_master::losses::Walked;
+use manipulability::view::Poses;
 use objective_master::{losses, relaxed_ik, weights};
 use sheet::chain;
 use spacetime::floats;
@@ -68,38 +68,26 @@ fn first_walk(
     );
 }
 
-// A raised joint's slope: the first losses f_0s are kept where the copy x touches nothing. Its links walked again stand in the record from entry `at` on.
+// A raised joint's slope: the first losses f_0s are kept where the copy x touches nothing.
 fn slope(
     counts: &[u16],
     codes: &[u16],
     task: &[f64],
     picks: Picks,
     x: &[f64],
-    frames: &[f64],
-    at: usize,
-    walked: Walked,
+    poses: Poses<'_>,
+    joint: usize,
     kinds: &[u16],
     f_0s: &[f64],
 ) -> f64
-    requires kinds_value { (kinds.now ≡ kinds_of picks counts.now codes.now) × (length kinds.now ≤ 131) × (length kinds.now ≤ length f_0s.now) × (7 * at ≤ length frames.now) }
-    requires lent { Lent counts.now codes.now task.now x.now frames.now (drop (7 * at) frames.now) walked.from walked.to }
-    requires cached { Cached (given_of counts.now codes.now task.now picks) (view_of frames.now (drop (7 * at) frames.now) walked.from walked.to)
-        x.now walked.from walked.to walked.joint f_0s.now }
-    ensures { result ≡ slope_to (given_in counts codes task picks) f_0s.now (view_of frames.now (drop (7 * at) frames.now) walked.from walked.to) x.now }
+    requires kinds_value { (kinds.now ≡ kinds_of picks counts.now codes.now) × (length kinds.now ≤ 131) × (length kinds.now ≤ length f_0s.now) }
+    requires lent { Lent counts.now codes.now task.now x.now poses.base.now poses.tail.now poses.from poses.to }
+    requires cached { Cached (given_of counts.now codes.now task.now picks) (seen_by poses) x.now poses.from poses.to (Some joint) f_0s.now }
+    ensures { result ≡ slope_to (given_in counts codes task picks) f_0s.now (seen_by poses.entry) x.now }
 {
     let mut f_hs = [0.0; 131];
-    lists::copy_floats(&f_0s[..kinds.len()], &mut f_hs);
-    losses::put_losses(
-        counts,
-        codes,
-        task,
-        picks,
-        x,
-        frames,
-        &frames[7 * at..],
-        walked,
-        &mut f_hs,
-    );
+    lists::copy(&f_0s[..kinds.len()], &mut f_hs);
+    losses::put_losses(counts, codes, task, picks, x, poses, Some(joint), &mut f_hs);
     slopes::weighted_slope(parts::weights(task), kinds, f_0s, &mut f_hs)
 }
 
@@ -133,18 +121,18 @@ fn one_joint(
     let at = here.at;
     let joint = here.joint;
     let end = chain::chain_end(counts, link);
-    let walked = Walked {
-        from: link,
-        to: end,
-        joint,
-    };
     let old = walk::raise(block, joint);
     let next = walk::walk_again(
         counts, codes, floats, block, link, end, here, joints, links, frames,
     );
-    grad[joint] = slope(
-        counts, codes, task, picks, block, frames, at, walked, kinds, f_0s,
-    );
+    let record: &[f64] = frames;
+    let poses = Poses {
+        base: record,
+        tail: &record[7 * at..],
+        from: link,
+        to: end,
+    };
+    grad[joint] = slope(counts, codes, task, picks, block, poses, joint, kinds, f_0s);
     walk::put_back(block, joint, old);
     next
 }
@@ -220,14 +208,12 @@ fn every_joint(
         joint: 0,
         pose: pose::origin(),
     };
-    let mut link: usize = 0;
-    while link < codes.len() {
+    for link in 0..codes.len() {
         let turn = Turn { link, here: p };
         p = link_turn(
             counts, codes, floats, task, picks, block, turn, kinds, f_0s, grad, joints, links,
             frames,
         );
-        link += 1;
     }
 }
 
@@ -255,30 +241,19 @@ pub fn gradient(
     let mut f_0s = [0.0; 131];
     let mut list = [0u16; 131];
     let n = relaxed_ik::relaxed_ik(counts, codes, picks, &mut list);
+    let kinds = &list[..n];
     first_walk(counts, codes, floats, block, joints, links, frames);
-    let all = Walked {
+    let all = Poses {
+        base: frames,
+        tail: frames,
         from: 0,
         to: codes.len(),
-        joint: 65535,
     };
-    losses::put_losses(
-        counts, codes, task, picks, block, frames, frames, all, &mut f_0s,
-    );
+    losses::put_losses(counts, codes, task, picks, block, all, None, &mut f_0s);
     every_joint(
-        counts,
-        codes,
-        floats,
-        task,
-        picks,
-        block,
-        &list[..n],
-        &f_0s,
-        grad,
-        joints,
-        links,
-        frames,
+        counts, codes, floats, task, picks, block, kinds, &f_0s, grad, joints, links, frames,
     );
-    weights::weighted_sum(parts::weights(task), &list[..n], &f_0s)
+    weights::weighted_sum(parts::weights(task), kinds, &f_0s)
 }
 
 // How many links are walked again for a link's joint.
@@ -299,10 +274,8 @@ pub fn entries(counts: &[u16], codes: &[u16]) -> usize
     ensures { result ≡ entries_of counts.now codes.now }
 {
     let mut n = codes.len();
-    let mut link: usize = 0;
-    while link < codes.len() {
+    for link in 0..codes.len() {
         n += entries_again(counts, codes, link);
-        link += 1;
     }
     n
 }

@@ -82,12 +82,10 @@ pub fn walk(
         (runs (poses counts.now codes.now floats.now block.now) from (to - from)) }
 {
     let mut p = here;
-    let mut link = from;
-    while link < to {
+    for link in from..to {
         p = walk_link(
             p, counts, codes, floats, block, link, raised, joints, links, frames,
         );
-        link += 1;
     }
     p
 }

@@ -1,6 +1,7 @@
 // What the byte call of the one-block gradient does once its lists are decoded; outputs are bytes.
 ghost use Rattle.std.specs.Prelude.{◌≡◌, [], ◌∷◌, ◌*◌, ◌≤◌, length, take};
 ghost use Rattle.lists.specs.Splice.{splice};
+ghost use Rattle.refusals.specs.Number.{number_of};
 ghost use Rattle.lent_bytes.specs.Lent.{room_in, number_room_in, bytes_of, bytes_of_numbers};
 ghost use Rattle.lent_bytes.specs.SheetLists.{sheet_with, sheet_of, room_of, number_room_of};
 ghost use Rattle.arm_bytes.specs.ArmCalls.{output_of};
@@ -13,6 +14,7 @@ use calls::one_block_slopes as room;
 use lent_bytes::lent as bytes_lent;
 use objective_bytes::objective_lists;
 use one_block::grad;
+use refusals::refusal::Refusal;
 use refusals::{lengths, lent, shape};
 use task::lay;
 use task::picks::Picks;
@@ -25,7 +27,8 @@ fn entries(sizes: &[u16], codes: &[u16], floats: &[f64], limits: &[f64]) -> usiz
 }
 
 // Sizes of outputs are in bytes.
-fn one_block_number(
+#[tactic(auto, unfolding(refusals::specs::Lowest::first_of, objective_bytes::specs::ObjectiveCalls::optional_number, crate::specs::OneBlockCalls::one_block_number))]
+fn one_block_refusal(
     sizes: &[u16],
     codes: &[u16],
     floats: &[f64],
@@ -40,27 +43,21 @@ fn one_block_number(
     record_joints: usize,
     record_links: usize,
     record_poses: usize,
-) -> u16
-    ensures { result ≡ one_block_number (sheet_of sizes codes floats limits) (task_of goals history weights tools) joints.now
+) -> Result<(), Refusal>
+    ensures { number_of result ≡ one_block_number (sheet_of sizes codes floats limits) (task_of goals history weights tools) joints.now
         (room_in value) (room_in slopes) (number_room_in record_joints) (number_room_in record_links) (room_in record_poses) }
 {
-    let of_task = objective_lists::task_number(
-        sizes, codes, floats, limits, goals, history, joints,
-    );
-    if of_task != 0 {
-        return of_task;
-    }
+    objective_lists::task_refusal(sizes, codes, floats, limits, goals, history, joints)?;
     let n = lengths::block_length(codes);
-    let first = lent::room_refusal(1, bytes_lent::room(value));
-    let second = lent::room_refusal(n, bytes_lent::room(slopes));
-    let third = room::record_refusal(
+    lent::room_refusal(1, bytes_lent::room(value))?;
+    lent::room_refusal(n, bytes_lent::room(slopes))?;
+    room::record_refusal(
         entries(sizes, codes, floats, limits),
         bytes_lent::number_room(record_joints),
         bytes_lent::number_room(record_links),
         bytes_lent::room(record_poses),
-    );
-    let last = objective_lists::optional_number(sizes, weights, tools);
-    lent::first_of(first, lent::first_of(second, lent::first_of(third, last)))
+    )?;
+    objective_lists::optional_refusal(sizes, weights, tools)
 }
 
 // Value, slopes and record of the decoded block.
@@ -193,6 +190,7 @@ fn put_one_block(
 }
 
 // The local list of poses is zeroed at every call, so it has one of two sizes: room for 80 entries, or for the most, 320.
+#[tactic(auto, unfolding(refusals::specs::Lowest::first_of, calls::specs::Arms::if_taken))]
 pub(crate) fn gradient_one_block(
     sizes: &[u16],
     codes: &[u16],
@@ -209,14 +207,14 @@ pub(crate) fn gradient_one_block(
     record_joints: &mut [u8],
     record_links: &mut [u8],
     record_poses: &mut [u8],
-) -> u16
-    ensures number { result ≡ one_block_number (sheet_of sizes codes floats limits) (task_of goals history weights tools) block.old
+) -> Result<(), Refusal>
+    ensures number { number_of result ≡ one_block_number (sheet_of sizes codes floats limits) (task_of goals history weights tools) block.old
         (room_of value) (room_of slopes) (number_room_of record_joints) (number_room_of record_links) (room_of record_poses) }
-    ensures value { value.new ≡ output_of result value (objective_value (sheet_of sizes codes floats limits) (task_of goals history weights tools) picks block.old) }
-    ensures slopes { slopes.new ≡ output_of result slopes (gradient_slopes (sheet_of sizes codes floats limits) (task_of goals history weights tools) picks block.old) }
-    ensures record_written { RecordWritten result (sheet_of sizes codes floats limits) block.old record_joints record_links record_poses }
+    ensures value { value.new ≡ output_of (number_of result) value (objective_value (sheet_of sizes codes floats limits) (task_of goals history weights tools) picks block.old) }
+    ensures slopes { slopes.new ≡ output_of (number_of result) slopes (gradient_slopes (sheet_of sizes codes floats limits) (task_of goals history weights tools) picks block.old) }
+    ensures record_written { RecordWritten (number_of result) (sheet_of sizes codes floats limits) block.old record_joints record_links record_poses }
 {
-    let number = one_block_number(
+    one_block_refusal(
         sizes,
         codes,
         floats,
@@ -231,10 +229,7 @@ pub(crate) fn gradient_one_block(
         record_joints.len(),
         record_links.len(),
         record_poses.len(),
-    );
-    if number != 0 {
-        return number;
-    }
+    )?;
     if entries(sizes, codes, floats, limits) <= 80 {
         let mut few = [0.0; 560];
         put_one_block(
@@ -255,7 +250,7 @@ pub(crate) fn gradient_one_block(
             record_links,
             record_poses,
         );
-        return 0;
+        return Ok(());
     }
     let mut most = [0.0; 2240];
     put_one_block(
@@ -276,5 +271,5 @@ pub(crate) fn gradient_one_block(
         record_links,
         record_poses,
     );
-    0
+    Ok(())
 }

@@ -8,8 +8,10 @@ ghost use Rattle.objective_bytes.specs.ObjectiveCalls.{task_in, objective_value,
 ghost use Rattle.one_block_bytes.specs.OneBlockCalls.{one_block_number, RecordWritten};
 
 use crate::one_block_lists;
-use lent_bytes::{picks, sheet_lists, task_lists, tool_lists};
-use objective_bytes::weights as weights_list;
+use lent_bytes::sheet_lists::Sheet;
+use lent_bytes::{lent, picks};
+use objective_bytes::task_lists;
+use refusals::refusal::number_of;
 
 // The joints are decoded once, into the block that is raised; their bytes are only read.
 pub fn gradient_one_block(
@@ -38,35 +40,21 @@ pub fn gradient_one_block(
     ensures slopes { slopes.new ≡ output_of result slopes (gradient_slopes (sheet_in sizes codes floats limits) (task_in goals history weights (tools_in tool0 tool1 tool2 tool3)) (picks_from strict) (block_in joints)) }
     ensures record_written { RecordWritten result (sheet_in sizes codes floats limits) (block_in joints) record_joints record_links record_poses }
 {
-    let mut s = [0u16; 5];
-    let mut c = [0u16; 64];
-    let mut f = [0.0; 448];
-    let mut l = [0.0; 32];
-    let mut g = [0.0; 52];
-    let mut h = [0.0; 64];
-    let mut w = [0.0; 8];
+    let mut sheet = Sheet::empty();
+    sheet.decode(sizes, codes, floats, limits);
+    let task = task_lists::decode(goals, history, weights, tool0, tool1, tool2, tool3);
     let mut x = [0.0; 16];
-    let n = sheet_lists::decode(sizes, codes, floats, limits, &mut s, &mut c, &mut f, &mut l);
-    let ns = n.sizes;
-    let nc = n.codes;
-    let nf = n.floats;
-    let nl = n.limits;
-    let t = task_lists::decode(goals, history, joints, &mut g, &mut h, &mut x);
-    let ng = t.goals;
-    let nh = t.history;
-    let nx = t.joints;
-    let nw = weights_list::decode(weights, &mut w);
-    let tools = tool_lists::decode(tool0, tool1, tool2, tool3);
+    let nx = lent::decode(joints, &mut x);
     let picks = picks::decode(strict);
-    one_block_lists::gradient_one_block(
-        &s[..ns],
-        &c[..nc],
-        &f[..nf],
-        &l[..nl],
-        &g[..ng],
-        &h[..nh],
-        &w[..nw],
-        &tools,
+    number_of(one_block_lists::gradient_one_block(
+        &sheet.sizes,
+        &sheet.codes,
+        &sheet.floats,
+        &sheet.limits,
+        &task.goals,
+        &task.history,
+        &task.weights,
+        &task.tools,
         picks,
         &mut x[..nx],
         value,
@@ -74,5 +62,5 @@ pub fn gradient_one_block(
         record_joints,
         record_links,
         record_poses,
-    ) as u32
+    )) as u32
 }

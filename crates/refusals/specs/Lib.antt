@@ -4,4 +4,5 @@ pub mod Lengths
 pub mod Refusal
 pub mod Passed
 pub mod Plain
+pub mod Number
 pub mod Rows

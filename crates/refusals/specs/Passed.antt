@@ -7,7 +7,7 @@ use Rattle.sheet.specs.Chain.{total, joints, chain_length}
 use Rattle.lists.specs.Tests.{and-true}
 use Rattle.refusals.specs.Range.{every-at, between}
 use Rattle.refusals.specs.Lowest.{lowest_from, lowest, lowest-found, lowest-none, none-lowest, lowest-most, first_of, first-zero, first-is, first-none}
-use Rattle.refusals.specs.Refusal.{chains_of, links_of, links_fit, bad_sizes, bad_lengths, listed_code, listed_at, bad_codes, two_joints, later_fits, bad_joints, bad_limits, bad_floats, bad_block, bad_history, bad_goals, bad_weights, bad_tool, shape_conditions, shape_refusal, sheet_conditions, load_conditions, load_refusal, sizing_refusal, block_refusal, history_refusal, goals_refusal, room_refusal, weights_refusal, tool_refusal}
+use Rattle.refusals.specs.Refusal.{chains_of, links_of, links_fit, bad_sizes, bad_lengths, listed_code, listed_at, bad_codes, two_joints, later_fits, bad_joints, bad_limits, bad_floats, bad_block, bad_history, bad_goals, bad_weights, bad_tool, shape_conditions, shape_refusal, sheet_conditions, load_conditions, sizing_conditions, load_refusal, sizing_refusal, block_refusal, history_refusal, goals_refusal, room_refusal, weights_refusal, tool_refusal}
 
 -- ---- loading: the number is that of the lowest condition that holds, and 0 exactly if none does
 module _ (sizes codes : List ℕ) (floats limits : List Float) where
@@ -231,6 +231,10 @@ pub load-most : (sizes codes : List ℕ) (floats limits : List Float) → load_r
 unfolding load_refusal
 load-most sizes codes floats limits = lowest-most (load_conditions sizes codes floats limits)
 
+pub sizing-most : (sizes codes : List ℕ) (floats : List Float) → sizing_refusal sizes codes floats ≤ 6
+unfolding sizing_refusal
+sizing-most sizes codes floats = lowest-most (sizing_conditions sizes codes floats)
+
 pub block-most : (codes : List ℕ) (x : List Float) → block_refusal codes x ≤ 7
 unfolding block_refusal
 block-most codes x = test-most (bad_block codes x) 7
@@ -242,3 +246,6 @@ history-most codes history = test-most (bad_history codes history) 7
 pub goals-most : (chains : ℕ) (goals : List Float) → goals_refusal chains goals ≤ 8
 unfolding goals_refusal
 goals-most chains goals = test-most (bad_goals chains goals) 8
+
+-- a sheet's number, and what passing its conditions says
+pub ruleset sheets = (load-first, sizing-first, sizes-passed, lengths-passed, shape-passed)

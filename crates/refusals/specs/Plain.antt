@@ -157,3 +157,6 @@ module _ (r : Float) (cs : List ℕ) (one : OneRange r cs) where
   pub history-plain : (xs : List Float) → history_refusal cs xs ≡ plain_refusal r (4 * joints cs) xs
   unfolding history_refusal bad_history plain_refusal
   history-plain xs = ap (λ (b : Bool). cond (not (eqb (length xs) (4 * joints cs)) || not b) 7 0) (blocks-plain xs 4)
+
+-- what is within -8..8 fits any code
+pub ruleset near = (near-block, near-history)

@@ -1,10 +1,11 @@
 -- Ranges, closed, and tests of every one of a run. A NaN is within no range.
-use Rattle.std.specs.Prelude.{◌≡◌, Bool, true, false, ◌&&◌, List, ℤ, leb, Float, get_or}
+use Rattle.std.specs.Prelude.{◌≡◌, Bool, true, false, ◌&&◌, List, ℤ, leb, Float, get_or, length, take, drop}
+use Rattle.std.proofs.lemmas.List.{length-take-le, get_or-take, get_or-drop}
 use Rattle.std.proofs.Math.Path.{refl}
-use Rattle.std.proofs.Common.{sym, ap, ◌∙◌, eq-or-lt_of_le, le_trans, le_of_eq, lt_of_le_of_lt, lt_of_lt_of_le, mul_right_comm, mul-le-mul_right, mul-lt-mul_of_pos_right, lt_of_mul-lt-mul_right, lt-ltb}
+use Rattle.std.proofs.Common.{sym, ap, ◌∙◌, eq-or-lt_of_le, le_trans, le_of_eq, lt_of_le_of_lt, lt_of_lt_of_le, mul_right_comm, mul-le-mul_right, mul-lt-mul_of_pos_right, lt_of_mul-lt-mul_right, lt-ltb, length-drop}
 use Rattle.std.proofs.lemmas.Bool.{false≢true}
 use Rattle.std.proofs.Math.Logic.{⊎_elim}
-use Prim.Native.Nat.{ℕ, zero, suc, ◌+◌, ◌*◌, ◌≤◌, ◌<◌}
+use Prim.Native.Nat.{ℕ, zero, suc, ◌+◌, ◌-◌, ◌*◌, ◌≤◌, ◌<◌}
 use Rattle.std.proofs.Math.Numerals.{add-one}
 use native.Mathlib.Omega.{arith}
 use Rattle.std.specs.Float.{nan, inf, fin, binary64}
@@ -67,6 +68,9 @@ module _ (f : ℕ → Bool) where
       (λ (l : suc i < suc n). every-at n i b.0 (omega arith))
       (eq-or-lt_of_le h)
 
+-- a loop that carries the answer
+pub ruleset turns = (every-none, every_more)
+
 pub every-from : (f : ℕ → Bool) (n : ℕ) → ((i : ℕ) → i < n → f i ≡ true) → every f n ≡ true
 unfolding every
 every-from f zero h = refl
@@ -76,6 +80,35 @@ pub every-ext : (f g : ℕ → Bool) (n : ℕ) → ((i : ℕ) → f i ≡ g i) �
 unfolding every
 every-ext f g zero same = refl
 every-ext f g (suc n) same = ap (λ (b : Bool). b && f n) (every-ext f g n same) ∙ ap (λ (b : Bool). every g n && b) (same n)
+
+pub every-same : (f g : ℕ → Bool) (n : ℕ) → ((i : ℕ) → i < n → f i ≡ g i) → every f n ≡ every g n
+unfolding every
+every-same f g zero same = refl
+every-same f g (suc n) same =
+    ap (λ (b : Bool). b && f n) (every-same f g n (λ i h. same i (omega (arith, h)))) ∙ ap (λ (b : Bool). every g n && b) (same n (omega arith))
+
+-- the floats from at to end, as a list of their own
+part-at : (xs : List Float) (at n i : ℕ) → i < n → get_or (take n (drop at xs)) i nan ≡ get_or xs (at + i) nan
+part-at xs at n i h = get_or-take n (drop at xs) i nan h ∙ get_or-drop at xs i nan
+
+pub part-within : (b : Float) (xs : List Float) (at end : ℕ) → end ≤ length xs
+    → every (within_at b (take (end - at) (drop at xs)) 0) (length (take (end - at) (drop at xs))) ≡ every (within_at b xs at) (end - at)
+unfolding within_at
+part-within b xs at end h =
+    let n = end - at in
+    let long : length (take n (drop at xs)) ≡ n = length-take-le n (drop at xs) (omega (arith, length-drop at xs)) in
+    ap (every (within_at b (take n (drop at xs)) 0)) long ∙ every-same _ _ n (λ i k. let z : 0 + i ≡ i = omega arith in ap (within b) (ap (λ (j : ℕ). get_or (take n (drop at xs)) j nan) z ∙ part-at xs at n i k))
+
+pub part-unit : (xs : List Float) (at end : ℕ) → end ≡ at + 4 → unit_at (take (end - at) (drop at xs)) 0 ≡ unit_at xs at
+unfolding unit_at
+part-unit xs at end e =
+    let n = end - at in
+    let f = part-at xs at n in
+    let z : at + 0 ≡ at = omega arith in
+    rw (f 0 (omega arith), f 1 (omega arith), f 2 (omega arith), f 3 (omega arith), z) refl
+
+-- a part of a list
+pub ruleset parts = (part-within, part-unit)
 
 and_assoc : (a b c : Bool) → ((a && b) && c) ≡ (a && (b && c))
 and_assoc true b c = refl

@@ -1,23 +1,19 @@
-// Refusals 7 to 10: what a call is lent beside the sheet. A call's number is the first of those that apply, in order.
+// Refusals 7 to 10: what a call is lent beside the sheet. A call answers the first of those that apply, in order.
 ghost use Rattle.std.specs.Prelude.{◌≡◌, ℕ, ◌+◌, ◌*◌, ◌≤◌, length};
 ghost use Rattle.refusals.specs.Range.{every};
-ghost use Rattle.refusals.specs.Lowest.{first_of};
+ghost use Rattle.refusals.specs.Number.{number_of};
 ghost use Rattle.sheet.specs.Code.{kind_of};
 ghost use Rattle.sheet.specs.Chain.{joints_of};
 ghost use Rattle.refusals.specs.Lengths.{block_length};
 ghost use Rattle.refusals.specs.Refusal.{joint_range, joint_fits, value_fits, block_fits, block_refusal, history_fits, history_refusal, goal_fits, goals_refusal, room_refusal, weight_fits, weights_refusal};
 
+use crate::refusal::Refusal;
 use crate::{lengths, range};
 use sheet::code::Kind;
-use sheet::{chain, code, reader};
-
-pub fn first_of(a: u16, b: u16) -> u16
-    ensures { result ≡ first_of a b }
-{
-    if a == 0 { b } else { a }
-}
+use sheet::{chain, code};
 
 // How far a joint may go to either side.
+#[tactic(auto, unfolding(crate::specs::Refusal::joint_range))]
 fn joint_range(code: u16) -> f64
     ensures { result ≡ joint_range (kind_of code) }
 {
@@ -31,12 +27,14 @@ fn joint_range(code: u16) -> f64
 }
 
 // The one test of a joint's value, by its link's code.
+#[tactic(auto, unfolding(crate::specs::Refusal::joint_fits))]
 fn joint_fits(code: u16, value: f64) -> bool
     ensures { result ≡ joint_fits code value }
 {
     range::is_within(joint_range(code), value)
 }
 
+#[tactic(auto, unfolding(sheet::specs::Chain::joints_of, crate::specs::Refusal::value_fits))]
 fn value_fits(code: u16, list: &[f64], at: usize) -> bool
     requires { at + joints_of code ≤ length list.now }
     ensures { result ≡ value_fits code list.now at }
@@ -47,39 +45,36 @@ fn value_fits(code: u16, list: &[f64], at: usize) -> bool
     joint_fits(code, list[at])
 }
 
-// Whether every joint of the block that starts at `at` is in its range.
-fn block_fits(codes: &[u16], list: &[f64], at: usize) -> bool
-    requires { at + block_length codes.now ≤ length list.now }
-    ensures { result ≡ block_fits codes.now list.now at }
+// Whether every joint of a block is in its range.
+fn block_fits(codes: &[u16], block: &[f64]) -> bool
+    requires { block_length codes.now ≤ length block.now }
+    ensures { result ≡ block_fits codes.now block.now 0 }
 {
     let mut ok = true;
-    let mut j = at;
-    let mut l: usize = 0;
-    while l < codes.len() {
-        ok = range::both(ok, value_fits(reader::read(codes, l), list, j));
+    let mut j = 0;
+    for (l, code) in codes.iter().enumerate() {
+        ok &= value_fits(*code, block, j);
         j = chain::next_joint(codes, l, j);
-        l += 1;
     }
     ok
 }
 
-pub fn block_refusal(codes: &[u16], block: &[f64]) -> u16
-    ensures { result ≡ block_refusal codes.now block.now }
+#[tactic(auto, using(crate::specs::Plain::near), unfolding(crate::specs::Refusal::bad_block, crate::specs::Refusal::block_refusal))]
+pub fn block_refusal(codes: &[u16], block: &[f64]) -> Result<(), Refusal>
+    ensures { number_of result ≡ block_refusal codes.now block.now }
 {
     if block.len() != lengths::block_length(codes) {
-        return 7;
+        return Err(Refusal::Block);
     }
     // What is within the narrowest range fits any code: none has to be taken apart.
-    if range::all_within(8.0, block, 0, block.len()) {
-        return 0;
+    if range::all_within(8.0, block) || block_fits(codes, block) {
+        return Ok(());
     }
-    if block_fits(codes, block, 0) {
-        return 0;
-    }
-    7
+    Err(Refusal::Block)
 }
 
 // Whether a link's joint is in its range in each of a history's four blocks, n values apart.
+#[tactic(auto, unfolding(sheet::specs::Chain::joints_of, crate::specs::Range::every, crate::specs::Refusal::value_fits))]
 fn joint_history_fits(code: u16, history: &[f64], j: usize, n: usize) -> bool
     requires { 3 * n + j + joints_of code ≤ length history.now }
     ensures { result ≡ every (λ (b : ℕ). value_fits code history.now (b * n + j)) 4 }
@@ -87,10 +82,10 @@ fn joint_history_fits(code: u16, history: &[f64], j: usize, n: usize) -> bool
     if !code::has_joint(code) {
         return true;
     }
-    let one = joint_fits(code, history[j]);
-    let two = range::both(one, joint_fits(code, history[n + j]));
-    let three = range::both(two, joint_fits(code, history[2 * n + j]));
-    range::both(three, joint_fits(code, history[3 * n + j]))
+    joint_fits(code, history[j])
+        & joint_fits(code, history[n + j])
+        & joint_fits(code, history[2 * n + j])
+        & joint_fits(code, history[3 * n + j])
 }
 
 // Whether every joint of a history's four blocks is in its range, in one pass over the links.
@@ -100,73 +95,65 @@ fn history_fits(codes: &[u16], history: &[f64], n: usize) -> bool
 {
     let mut ok = true;
     let mut j: usize = 0;
-    let mut l: usize = 0;
-    while l < codes.len() {
-        let code = reader::read(codes, l);
-        ok = range::both(ok, joint_history_fits(code, history, j, n));
+    for (l, code) in codes.iter().enumerate() {
+        ok &= joint_history_fits(*code, history, j, n);
         j = chain::next_joint(codes, l, j);
-        l += 1;
     }
     ok
 }
 
 // A history is four joint blocks.
-pub fn history_refusal(codes: &[u16], history: &[f64]) -> u16
-    ensures { result ≡ history_refusal codes.now history.now }
+#[tactic(auto, using(crate::specs::Plain::near), unfolding(crate::specs::Refusal::bad_history, crate::specs::Refusal::history_refusal))]
+pub fn history_refusal(codes: &[u16], history: &[f64]) -> Result<(), Refusal>
+    ensures { number_of result ≡ history_refusal codes.now history.now }
 {
     let n = lengths::block_length(codes);
     if history.len() != 4 * n {
-        return 7;
+        return Err(Refusal::Block);
     }
-    if range::all_within(8.0, history, 0, history.len()) {
-        return 0;
+    if range::all_within(8.0, history) || history_fits(codes, history, n) {
+        return Ok(());
     }
-    if history_fits(codes, history, n) {
-        0
-    } else {
-        7
-    }
+    Err(Refusal::Block)
 }
 
+#[tactic(auto, using(crate::specs::Range::parts), unfolding(crate::specs::Refusal::goal_fits))]
 fn goal_fits(goals: &[f64], chain: usize) -> bool
     requires { 13 * chain + 13 ≤ length goals.now }
     ensures { result ≡ goal_fits goals.now chain }
 {
     let at = 13 * chain;
-    if !range::all_within(100.0, goals, at, 3) {
-        return false;
-    }
-    if !range::all_within(100.0, goals, at + 7, 6) {
-        return false;
-    }
-    range::unit(goals, at + 3)
+    range::all_within(100.0, &goals[at..at + 3])
+        && range::all_within(100.0, &goals[at + 7..at + 13])
+        && range::unit(&goals[at + 3..at + 7])
 }
 
-pub fn goals_refusal(chains: usize, goals: &[f64]) -> u16
-    ensures { result ≡ goals_refusal chains goals.now }
+#[tactic(auto, using(crate::specs::Range::turns), unfolding(crate::specs::Refusal::bad_goals, crate::specs::Refusal::goals_refusal))]
+pub fn goals_refusal(chains: usize, goals: &[f64]) -> Result<(), Refusal>
+    ensures { number_of result ≡ goals_refusal chains goals.now }
 {
     // By division, since 13 * chains may not fit.
-    if goals.len() / 13 != chains {
-        return 8;
-    }
-    if goals.len() % 13 != 0 {
-        return 8;
+    if goals.len() / 13 != chains || goals.len() % 13 != 0 {
+        return Err(Refusal::Goals);
     }
     let mut ok = true;
-    let mut c: usize = 0;
-    while c < chains {
-        ok = range::both(ok, goal_fits(goals, c));
-        c += 1;
+    for c in 0..chains {
+        ok &= goal_fits(goals, c);
     }
-    if ok { 0 } else { 8 }
+    if ok { Ok(()) } else { Err(Refusal::Goals) }
 }
 
-pub fn room_refusal(needed: usize, have: usize) -> u16
-    ensures { result ≡ room_refusal needed have }
+#[tactic(auto, unfolding(crate::specs::Refusal::room_refusal))]
+pub fn room_refusal(needed: usize, have: usize) -> Result<(), Refusal>
+    ensures { number_of result ≡ room_refusal needed have }
 {
-    if have < needed { 9 } else { 0 }
+    if have < needed {
+        return Err(Refusal::Room);
+    }
+    Ok(())
 }
 
+#[tactic(auto, unfolding(crate::specs::Refusal::weight_fits))]
 fn weight_fits(weight: f64) -> bool
     ensures { result ≡ weight_fits weight }
 {
@@ -174,17 +161,16 @@ fn weight_fits(weight: f64) -> bool
 }
 
 // A weight for each kind of objective.
-pub fn weights_refusal(weights: &[f64]) -> u16
-    ensures { result ≡ weights_refusal weights.now }
+#[tactic(auto, using(crate::specs::Range::turns), unfolding(crate::specs::Refusal::weight_fits_at, crate::specs::Refusal::bad_weights, crate::specs::Refusal::weights_refusal))]
+pub fn weights_refusal(weights: &[f64]) -> Result<(), Refusal>
+    ensures { number_of result ≡ weights_refusal weights.now }
 {
     if weights.len() != 8 {
-        return 10;
+        return Err(Refusal::Weights);
     }
     let mut ok = true;
-    let mut k: usize = 0;
-    while k < 8 {
-        ok = range::both(ok, weight_fits(weights[k]));
-        k += 1;
+    for weight in weights {
+        ok &= weight_fits(*weight);
     }
-    if ok { 0 } else { 10 }
+    if ok { Ok(()) } else { Err(Refusal::Weights) }
 }

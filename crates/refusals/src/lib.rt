@@ -1,8 +1,9 @@
 #![tactic(auto)]
-// The numbers with which bad input is refused: 0 is accepted, and the lowest number wins.
+// With what bad input is refused: of the refusals that apply the one with the lowest number wins.
 pub mod lengths;
 pub mod lent;
 pub mod load;
 mod range;
+pub mod refusal;
 pub mod shape;
 pub mod tools;

@@ -2,61 +2,56 @@
 ghost use Rattle.std.specs.Prelude.{◌≡◌, ◌≤◌, ◌<◌, ◌||◌, eqb, leb, length};
 ghost use Rattle.sheet.specs.Chain.{total};
 ghost use Rattle.refusals.specs.Range.{every};
+ghost use Rattle.refusals.specs.Number.{number_of};
 ghost use Rattle.refusals.specs.Refusal.{links_of, links_fit, bad_sizes, bad_lengths, listed_code, bad_codes, bad_joints, shape_refusal};
 
 use crate::range;
+use crate::refusal::Refusal;
 use sheet::code::Kind;
-use sheet::{chain, code, reader};
+use sheet::{chain, code};
 
 // The links per chain, without the chain count in front.
 pub fn links(sizes: &[u16]) -> &[u16]
     ensures { result.now ≡ links_of sizes.now }
 {
-    if sizes.len() == 0 {
-        return &sizes[0..];
+    match sizes {
+        [] => sizes,
+        [_, counts @ ..] => counts,
     }
-    &sizes[1..]
 }
 
+#[tactic(auto, using(crate::specs::Range::turns), unfolding(crate::specs::Refusal::links_fit))]
 fn links_fit(counts: &[u16]) -> bool
     ensures { result ≡ every (links_fit counts.now) (length counts.now) }
 {
     let mut ok = true;
-    let mut c: usize = 0;
-    while c < counts.len() {
-        ok = range::both(ok, range::is_between(1, 16, counts[c] as usize));
-        c += 1;
+    for n in counts {
+        ok &= range::is_between(1, 16, *n as usize);
     }
     ok
 }
 
+#[tactic(auto, unfolding(crate::specs::Refusal::bad_sizes))]
 fn bad_sizes(sizes: &[u16]) -> bool
     ensures { result ≡ bad_sizes sizes.now }
 {
-    if sizes.len() == 0 {
+    let [chains, counts @ ..] = sizes else {
         return true;
-    }
-    let chains = sizes[0] as usize;
-    if sizes.len() != chains + 1 {
-        return true;
-    }
-    if !range::is_between(1, 4, chains) {
-        return true;
-    }
-    !links_fit(links(sizes))
+    };
+    let chains = *chains as usize;
+    counts.len() != chains || !range::is_between(1, 4, chains) || !links_fit(counts)
 }
 
+#[tactic(auto, unfolding(crate::specs::Refusal::bad_lengths))]
 fn bad_lengths(counts: &[u16], codes: &[u16], floats: usize) -> bool
     requires { (length counts.now ≤ 4) × (total counts.now ≤ 64) }
     ensures { result ≡ bad_lengths counts.now codes.now floats }
 {
     let n = chain::total_links(counts);
-    if codes.len() != n {
-        return true;
-    }
-    floats != 7 * n
+    codes.len() != n || floats != 7 * n
 }
 
+#[tactic(auto, unfolding(crate::specs::Refusal::listed_code, crate::specs::Refusal::listed_kind))]
 fn is_listed(k: u16) -> bool
     ensures { result ≡ listed_code k }
 {
@@ -69,14 +64,13 @@ fn is_listed(k: u16) -> bool
     }
 }
 
+#[tactic(auto, using(crate::specs::Range::turns), unfolding(crate::specs::Refusal::listed_at, crate::specs::Refusal::bad_codes))]
 fn bad_codes(codes: &[u16]) -> bool
     ensures { result ≡ bad_codes codes.now }
 {
     let mut ok = true;
-    let mut l: usize = 0;
-    while l < codes.len() {
-        ok = range::both(ok, is_listed(reader::read(codes, l)));
-        l += 1;
+    for code in codes {
+        ok &= is_listed(*code);
     }
     !ok
 }
@@ -97,14 +91,13 @@ fn bad_joints(counts: &[u16], codes: &[u16]) -> bool
     let mut few = true;
     let mut link: usize = 0;
     let mut joint: usize = 0;
-    let mut c: usize = 0;
-    while c < counts.len() {
-        link += counts[c] as usize;
+    for (c, n) in counts.iter().enumerate() {
+        link += *n as usize;
         let next = chain::joint_number(codes, link);
-        two = range::both(two, 2 <= next - joint);
-        few = range::both(few, later_fits(c, next - joint, most));
+        let moving = next - joint;
+        two &= 2 <= moving;
+        few &= later_fits(c, moving, most);
         joint = next;
-        c += 1;
     }
     if !two {
         return true;
@@ -116,21 +109,22 @@ fn bad_joints(counts: &[u16], codes: &[u16]) -> bool
 }
 
 // `floats` is how many floats the sheet has.
-pub fn shape_refusal(sizes: &[u16], codes: &[u16], floats: usize) -> u16
-    ensures { result ≡ shape_refusal sizes.now codes.now floats }
+#[tactic(auto, using(crate::specs::Passed::sheets), unfolding(crate::specs::Lowest::lowest, crate::specs::Lowest::lowest_from, crate::specs::Refusal::shape_refusal))]
+pub fn shape_refusal(sizes: &[u16], codes: &[u16], floats: usize) -> Result<(), Refusal>
+    ensures { number_of result ≡ shape_refusal sizes.now codes.now floats }
 {
     if bad_sizes(sizes) {
-        return 1;
+        return Err(Refusal::Sizes);
     }
     let counts = links(sizes);
     if bad_lengths(counts, codes, floats) {
-        return 2;
+        return Err(Refusal::Lengths);
     }
     if bad_codes(codes) {
-        return 3;
+        return Err(Refusal::Codes);
     }
     if bad_joints(counts, codes) {
-        return 4;
+        return Err(Refusal::Joints);
     }
-    0
+    Ok(())
 }

@@ -1,5 +1,5 @@
 // The leaves: each is asked the floats that a record stores, and the floats it answers are held against the stored ones.
-ghost use Rattle.std.specs.Prelude.{◌≡◌, [], ◌∷◌, ◌≤◌, ◌^◌, length};
+ghost use Rattle.std.specs.Prelude.{◌≡◌, [], ◌∷◌, ◌≤◌, length};
 ghost use Rattle.lent_bytes.specs.Lent.{bytes_of};
 ghost use Rattle.stored_answers.specs.Agree.{answer_agrees};
 ghost use Rattle.spacetime.specs.Floats.{flat_vec, flat_quat};
@@ -11,52 +11,42 @@ use geometry::quaternion::Quat;
 use geometry::vector::Vec3;
 use lent_bytes::lent;
 use replay_calls::table;
-use stored_answers::{agree, stored};
+use stored_answers::agree;
+use stored_answers::stored::Record;
 
-pub fn floats(s: &[u8], at: usize, xs: &[f64]) -> bool
-    requires { (at ≤ 2 ^ 40) × (length xs.now ≤ 36) }
-    ensures { result ≡ answer_agrees s.now at 0 answered_list (bytes_of xs.now ∷ []) }
+pub fn floats(r: Record, xs: &[f64]) -> bool
+    requires { length xs.now ≤ 36 }
+    ensures { result ≡ answer_agrees r.entry.s.now r.entry.at 0 answered_list (bytes_of xs.now ∷ []) }
 {
     let mut out = [0u8; 288];
     let n = 8 * xs.len();
     lent::put_floats(xs, 0, &mut out);
-    agree::one(s, at, 0, table::ANSWERED, &out[..n])
+    agree::agrees(r, 0, table::ANSWERED, &[&out[..n]])
 }
 
-pub fn quat(s: &[u8], at: usize, q: Quat) -> bool
-    requires { at ≤ 2 ^ 40 }
-    ensures { result ≡ answer_agrees s.now at 0 answered_list (bytes_of (flat_quat q) ∷ []) }
+pub fn quat(r: Record, q: Quat) -> bool
+    ensures { result ≡ answer_agrees r.entry.s.now r.entry.at 0 answered_list (bytes_of (flat_quat q) ∷ []) }
 {
-    floats(s, at, &[q.w, q.i, q.j, q.k])
+    floats(r, &[q.w, q.i, q.j, q.k])
 }
 
-pub fn vec(s: &[u8], at: usize, v: Vec3) -> bool
-    requires { at ≤ 2 ^ 40 }
-    ensures { result ≡ answer_agrees s.now at 0 answered_list (bytes_of (flat_vec v) ∷ []) }
+pub fn vec(r: Record, v: Vec3) -> bool
+    ensures { result ≡ answer_agrees r.entry.s.now r.entry.at 0 answered_list (bytes_of (flat_vec v) ∷ []) }
 {
-    floats(s, at, &[v.x, v.y, v.z])
+    floats(r, &[v.x, v.y, v.z])
 }
 
-pub fn leaf(s: &[u8], at: usize) -> bool
-    requires { at ≤ 2 ^ 40 }
-    ensures { result ≡ leaf_agrees s.now at }
+pub fn leaf(r: Record) -> bool
+    ensures { result ≡ leaf_agrees r.entry.s.now r.entry.at }
 {
-    let call = stored::number_at(s, at);
-    let b = stored::list(s, at, table::ASKED);
-    if call < 22 {
-        return floats(s, at, &[leaves::standin(call, b)]);
+    let call = r.call();
+    let b = r.list(table::ASKED);
+    match call {
+        0..=21 => floats(r, &[leaves::standin(call, b)]),
+        22..=28 => floats(r, &[leaves::loss(call, b)]),
+        29..=31 => floats(r, &[leaves::measure(call, b)]),
+        32..=36 => quat(r, leaves::quat(call, b)),
+        37..=39 => vec(r, leaves::vec(call, b)),
+        _ => floats(r, &leaves::gram(b)),
     }
-    if call < 29 {
-        return floats(s, at, &[leaves::loss(call, b)]);
-    }
-    if call < 32 {
-        return floats(s, at, &[leaves::measure(call, b)]);
-    }
-    if call < 37 {
-        return quat(s, at, leaves::quat(call, b));
-    }
-    if call < 40 {
-        return vec(s, at, leaves::vec(call, b));
-    }
-    floats(s, at, &leaves::gram(b))
 }

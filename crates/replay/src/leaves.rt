@@ -41,17 +41,17 @@ pub fn standin(call: usize, b: &[u8]) -> f64
     ensures { result ≡ standin_of call b.now }
 {
     match call {
-        11 => return root::sqrt(float_at(b, 0)),
-        12 => return series::sin(float_at(b, 0)),
-        13 => return series::cos(float_at(b, 0)),
-        14 => return series::exp(float_at(b, 0)),
-        15 => return series::atan2(float_at(b, 0), float_at(b, 1)),
-        16 => return power::power20(float_at(b, 0)),
-        17 => return power::power30(float_at(b, 0)),
-        18 => return power::b20(),
-        19 => return power::b30(),
-        20 => return cut::cut(float_at(b, 0)),
-        _ => return cut::abs(float_at(b, 0)),
+        11 => root::sqrt(float_at(b, 0)),
+        12 => series::sin(float_at(b, 0)),
+        13 => series::cos(float_at(b, 0)),
+        14 => series::exp(float_at(b, 0)),
+        15 => series::atan2(float_at(b, 0), float_at(b, 1)),
+        16 => power::power20(float_at(b, 0)),
+        17 => power::power30(float_at(b, 0)),
+        18 => power::b20(),
+        19 => power::b30(),
+        20 => cut::cut(float_at(b, 0)),
+        _ => cut::abs(float_at(b, 0)),
     }
 }
 
@@ -98,13 +98,13 @@ pub fn loss(call: usize, b: &[u8]) -> f64
     ensures { result ≡ loss_of call b.now }
 {
     match call {
-        22 => return groove_loss(b),
-        23 => return swamp_groove_loss(b),
-        24 => return swamp_loss(b, 20),
-        25 => return swamp_loss(b, 30),
-        26 => return objective::match_ee_posi_dof(float_at(b, 0), float_at(b, 1)),
-        27 => return objective::match_ee_rota_dof(float_at(b, 0), float_at(b, 1)),
-        _ => return objective::each_joint_limits(float_at(b, 0), float_at(b, 1), float_at(b, 2)),
+        22 => groove_loss(b),
+        23 => swamp_groove_loss(b),
+        24 => swamp_loss(b, 20),
+        25 => swamp_loss(b, 30),
+        26 => objective::match_ee_posi_dof(float_at(b, 0), float_at(b, 1)),
+        27 => objective::match_ee_rota_dof(float_at(b, 0), float_at(b, 1)),
+        _ => objective::each_joint_limits(float_at(b, 0), float_at(b, 1), float_at(b, 2)),
     }
 }
 
@@ -120,9 +120,9 @@ pub fn measure(call: usize, b: &[u8]) -> f64
     ensures { result ≡ measure_of call b.now }
 {
     match call {
-        29 => return vector::norm(vec_at(b, 0)),
-        30 => return segment::distance(vec_at(b, 0), vec_at(b, 3), vec_at(b, 6), vec_at(b, 9)),
-        _ => return determinant(b),
+        29 => vector::norm(vec_at(b, 0)),
+        30 => segment::distance(vec_at(b, 0), vec_at(b, 3), vec_at(b, 6), vec_at(b, 9)),
+        _ => determinant(b),
     }
 }
 
@@ -130,11 +130,11 @@ pub fn quat(call: usize, b: &[u8]) -> Quat
     ensures { result ≡ quat_of call b.now }
 {
     match call {
-        32 => return quaternion::product(quat_at(b, 0), quat_at(b, 4)),
-        33 => return quaternion::inverse(quat_at(b, 0)),
-        34 => return quaternion::get_quat_x(float_at(b, 0)),
-        35 => return quaternion::get_quat_y(float_at(b, 0)),
-        _ => return quaternion::get_quat_z(float_at(b, 0)),
+        32 => quaternion::product(quat_at(b, 0), quat_at(b, 4)),
+        33 => quaternion::inverse(quat_at(b, 0)),
+        34 => quaternion::get_quat_x(float_at(b, 0)),
+        35 => quaternion::get_quat_y(float_at(b, 0)),
+        _ => quaternion::get_quat_z(float_at(b, 0)),
     }
 }
 
@@ -142,9 +142,9 @@ pub fn vec(call: usize, b: &[u8]) -> Vec3
     ensures { result ≡ vec_of call b.now }
 {
     match call {
-        37 => return quaternion::rotate(quat_at(b, 0), vec_at(b, 4)),
-        38 => return vector::cross(vec_at(b, 0), vec_at(b, 3)),
-        _ => return quaternion::scaled_axis(quat_at(b, 0)),
+        37 => quaternion::rotate(quat_at(b, 0), vec_at(b, 4)),
+        38 => vector::cross(vec_at(b, 0), vec_at(b, 3)),
+        _ => quaternion::scaled_axis(quat_at(b, 0)),
     }
 }
 

@@ -92,21 +92,21 @@ pub fn outputs_from(call: usize) -> usize
     ensures { (result ≡ outputs_from call) × (result ≤ 13) }
 {
     match call {
-        0 => return LOAD_END,
-        1 => return GOALS_END,
-        2 => return POSE_OUTPUTS,
-        3 => return ARM_OUTPUTS,
-        4 => return UPDATE_OUTPUT,
-        5 => return OBJECTIVE_OUTPUTS,
-        6 => return ARM_OUTPUTS,
-        7 => return POSE_OUTPUTS,
-        8 => return OBJECTIVE_OUTPUTS,
-        9 => return OBJECTIVE_OUTPUTS,
-        10 => return OBJECTIVE_OUTPUTS,
-        41 => return PLAN_OUTPUT,
-        42 => return SET_WEIGHTS_END,
-        43 => return SET_TOOL_END,
-        _ => return ANSWERED,
+        0 => LOAD_END,
+        1 => GOALS_END,
+        2 => POSE_OUTPUTS,
+        3 => ARM_OUTPUTS,
+        4 => UPDATE_OUTPUT,
+        5 => OBJECTIVE_OUTPUTS,
+        6 => ARM_OUTPUTS,
+        7 => POSE_OUTPUTS,
+        8 => OBJECTIVE_OUTPUTS,
+        9 => OBJECTIVE_OUTPUTS,
+        10 => OBJECTIVE_OUTPUTS,
+        41 => PLAN_OUTPUT,
+        42 => SET_WEIGHTS_END,
+        43 => SET_TOOL_END,
+        _ => ANSWERED,
     }
 }
 
@@ -114,25 +114,16 @@ pub fn outputs_from(call: usize) -> usize
 fn outputs(call: usize) -> usize
     ensures { (result ≡ outputs_of call) × (result ≤ 5) }
 {
-    if call < 2 {
-        return 0;
+    match call {
+        0..=1 => 0,
+        2..=5 => 1,
+        6..=7 => 2,
+        8..=9 => 3,
+        10 => 5,
+        11..=41 => 1,
+        42..=43 => 0,
+        _ => 1,
     }
-    if call < 6 {
-        return 1;
-    }
-    if call < 8 {
-        return 2;
-    }
-    if call < 10 {
-        return 3;
-    }
-    if call == 10 {
-        return 5;
-    }
-    if call < 42 {
-        return 1;
-    }
-    if call < 44 { 0 } else { 1 }
 }
 
 // How many lists a record of the call has.

@@ -41,7 +41,7 @@ fn parts(b: u64) -> Scaled
     let e = b / P52;
     let t = b % P52;
     if e == 0 {
-        let z = u64::leading_zeros(t) as u64;
+        let z = t.leading_zeros() as u64;
         return even(t << (z - 11), 63 - z);
     }
     even(t + P52, e + 51)
@@ -78,19 +78,16 @@ fn near(a: u64, q: u64) -> bool
     hi + (lo + P55 - q) / P52 < a + 8
 }
 
-// Digit by digit: r is the weight of the next digit, and y * r / 2 is what q * q leaves of a * 2^52.
+// Digit by digit: r is the weight of the digit, and y * r / 2 is what q * q leaves of a * 2^52.
 fn by_digits(a: u64) -> u64
     requires { (2 ^ 52 ≤ a) × (a ≤ 2 ^ 54 - 2) }
     ensures { Digits a result }
 {
-    let mut k = 53u64;
-    let mut r = P53;
     let mut q = 0u64;
     let mut y = a;
-    while k > 0 {
-        k -= 1;
-        r = r / 2;
-        y = y * 2;
+    for k in (0..53u32).rev() {
+        let r = 1u64 << k;
+        y *= 2;
         let t = 4 * q + 2 * r;
         if t <= y {
             y -= t;
@@ -109,7 +106,7 @@ fn digits(a: u64) -> u64
     if s != s {
         return by_digits(a);
     }
-    let q = f64::to_bits(s) % P55;
+    let q = s.to_bits() % P55;
     if near(a, q) {
         return q;
     }
@@ -139,7 +136,7 @@ pub fn sqrt(x: f64) -> f64
     if x < 0.0 {
         return 0.0 / 0.0;
     }
-    let b = f64::to_bits(x);
+    let b = x.to_bits();
     if b == INFINITY {
         return x;
     }

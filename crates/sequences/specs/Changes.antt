@@ -2,9 +2,8 @@
 use Rattle.std.specs.Prelude.{Bool, true, false, List, ℕ, eqb}
 use Rattle.lent_bytes.specs.Lent.{numbers_in, floats_in}
 use Rattle.state_calls.specs.declared.state.State.{State}
-use Rattle.state_calls.specs.declared.state.Outcome.{Outcome}
 use Rattle.state_calls.specs.State.{empty_state}
-use Rattle.state_calls.specs.Load.{load_of}
+use Rattle.state_calls.specs.Load.{Outcome, load_of}
 use Rattle.state_calls.specs.Party.{set_goals_of, reset_state_of, update_state_of}
 use Rattle.state_calls.specs.Weights.{set_weights_of}
 use Rattle.state_calls.specs.Tools.{set_tool_of}

@@ -1,10 +1,9 @@
 -- The steps of the sequences, one behind the other on one state; how many of a call there are, how many differ, and what is wrong with a list.
-use Rattle.std.specs.Prelude.{◌≡◌, Bool, List, ℕ, zero, suc, ◌+◌}
-use Rattle.std.proofs.Common.{add-one}
+use Rattle.std.specs.Prelude.{Bool, List, ℕ}
 use Rattle.state_calls.specs.declared.state.State.{State}
 use Rattle.state_calls.specs.State.{empty_state}
 use Rattle.stored_answers.specs.Stored.{number_at}
-use Rattle.stored_answers.specs.Records.{end_by, record_by, cases_by, differ_by, damage_by}
+use Rattle.stored_answers.specs.Records.{end_by, record_by, state_by, cases_by, differ_by, damage_by}
 use Rattle.sequences.specs.Table.{last_call, lists_of}
 use Rattle.sequences.specs.Changes.{outcome_at}
 use Rattle.sequences.specs.Asked.{step_agrees}
@@ -21,9 +20,8 @@ abbrev pub after_of : State → List ℕ → ℕ → State
 after_of st s at = (outcome_at (number_at s at) st s at).state
 
 -- the state before step i
-unfoldable pub state_at : List ℕ → ℕ → State
-state_at s zero = empty_state
-state_at s (suc i) = after_of (state_at s i) s (record_at s i)
+abbrev pub state_at : List ℕ → ℕ → State
+state_at s i = state_by after_of empty_state lists_of s i
 
 -- step i agrees with what its call answers on that state
 abbrev pub agrees_at : List ℕ → ℕ → Bool
@@ -39,8 +37,3 @@ differ_of s c = differ_by lists_of (agrees_at s) s c
 -- what is wrong with a list
 abbrev pub damage_of : List ℕ → ℕ
 damage_of s = damage_by lists_of last_call s
-
--- ---- law
-pub state-next : (s : List ℕ) (i : ℕ) → state_at s (i + 1) ≡ after_of (state_at s i) s (record_at s i)
-unfolding state_at
-state-next s i = rw add-one

@@ -3,61 +3,49 @@
 mod agree;
 mod asked;
 mod changes;
-mod damage;
-mod names;
-mod report;
+mod program;
 mod steps;
 mod table;
-mod tally;
 
-ghost use Rattle.std.specs.Prelude.{◌≡◌, ◌≤◌, length, IfOk};
+ghost use Rattle.std.specs.Prelude.{◌≡◌, IfOk};
+ghost use Rattle.stored_answers.specs.Records.{sum_of};
+ghost use Rattle.stored_answers.specs.Damage.{damage_number};
+ghost use Rattle.sequences.specs.Table.{calls};
+ghost use Rattle.sequences.specs.Steps.{cases_of, differ_of, damage_of};
 
+use crate::program::StateCalls;
 use std::io;
-use std::io::{Print, Read};
+use std::io::Print;
+use stored_answers::damage::Damage;
+use stored_answers::tally::Counts;
+use stored_answers::{damage, input, report};
 
 // The room for the list, in bytes.
 const ROOM: usize = 655360;
 
+fn check(s: &[u8]) -> Result<(), Damage>
+    ensures { damage_number result ≡ damage_of s.now }
+{
+    damage::check::<StateCalls>(s)
+}
+
+fn report<R: Print>(rt: &R, s: &[u8]) -> io::Result<Counts>
+    ensures { IfOk result (λ all. (all.cases ≡ sum_of (cases_of s.now) calls) × (all.differ ≡ sum_of (differ_of s.now) calls)) }
+{
+    report::report::<StateCalls, R>(rt, s)
+}
+
 fn play<R: Print>(rt: &R, s: &[u8]) -> io::Result<()> {
-    let found = damage::damage(s);
-    if found == 1 {
-        return rt.write_all(b"the list is cut short\n");
+    if let Err(found) = check(s) {
+        return println!(rt; "{found}");
     }
-    if found == 2 {
-        return rt.write_all(b"the list has a record of an unknown call\n");
-    }
-    if found == 3 {
-        return rt.write_all(b"the list has bytes behind its last record\n");
-    }
-    report::report(rt, s)?;
+    report(rt, s)?;
     Ok(())
 }
 
-// Reads until the room is full or the input ends, and answers how many bytes it put in front.
-fn read_full<T: Read>(from: &mut T, room: &mut [u8]) -> io::Result<usize>
-    ensures { IfOk result (λ n. n ≤ length room.new) }
-{
-    let mut done = 0;
-    while done < room.len() {
-        let n = from.read(&mut room[done..])?;
-        if n == 0 {
-            break;
-        }
-        done += n;
-    }
-    Ok(done)
-}
-
-// Room for N bytes. N is a parameter, since a list of so many bytes is too long for a check to count out.
-fn empty_room<const N: usize>() -> [u8; N]
-    ensures { length result ≡ N }
-{
-    [0; N]
-}
-
 fn main(rt: HostRuntime) -> io::Result<()> {
-    let mut list = empty_room::<ROOM>();
-    let n = read_full(&mut rt.stdin(), &mut list)?;
+    let mut list = input::empty_room::<ROOM>();
+    let n = input::read_full(&mut rt.stdin(), &mut list)?;
     if n == ROOM {
         return rt.write_all(b"the list is longer than the room for it\n");
     }

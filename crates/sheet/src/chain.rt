@@ -3,6 +3,7 @@ ghost use Rattle.std.specs.Prelude.{◌≡◌, ◌+◌, ◌≤◌, ◌<◌, ◌^
 ghost use Rattle.sheet.specs.Code.{has_joint};
 ghost use Rattle.sheet.specs.Chain.{first_in, end_in, total, joints_of, joint_of};
 
+use super::reader::Reader;
 use super::{code, reader};
 
 // Whether a link is the first of a chain.
@@ -10,17 +11,15 @@ pub fn is_first(counts: &[u16], link: usize) -> bool
     ensures { result ≡ first_in counts.now link }
 {
     let mut k = link;
-    let mut c = 0;
-    while c < counts.len() {
+    for n in counts {
         if k == 0 {
             return true;
         }
-        let n = counts[c] as usize;
+        let n = *n as usize;
         if k < n {
             return false;
         }
         k -= n;
-        c += 1;
     }
     k == 0
 }
@@ -32,15 +31,13 @@ pub fn chain_end(counts: &[u16], link: usize) -> usize
 {
     let mut k = link;
     let mut s: usize = 0;
-    let mut c = 0;
-    while c < counts.len() {
-        let n = counts[c] as usize;
+    for n in counts {
+        let n = *n as usize;
         s += n;
         if k < n {
             return s;
         }
         k -= n;
-        c += 1;
     }
     s
 }
@@ -51,10 +48,8 @@ pub fn total_links(counts: &[u16]) -> usize
     ensures { result ≡ total counts.now }
 {
     let mut s: usize = 0;
-    let mut c = 0;
-    while c < counts.len() {
-        s += counts[c] as usize;
-        c += 1;
+    for n in counts {
+        s += *n as usize;
     }
     s
 }
@@ -67,6 +62,7 @@ pub fn has_joint_at(codes: &[u16], link: usize) -> bool
 }
 
 // The joints with that of a link of that code.
+#[tactic(auto, unfolding(crate::specs::Code::has_joint, crate::specs::Chain::joints_of))]
 fn counted(code: u16, joints: usize) -> usize
     requires { joints + 1 < 2 ^ 64 }
     ensures { result ≡ joints + joints_of code }
@@ -91,11 +87,11 @@ fn joints_to(codes: &[u16], link: usize) -> usize
     requires { link ≤ length codes.now }
     ensures { result ≡ joint_of codes.now link }
 {
-    let mut r = reader::new(codes, 0);
+    let mut r = Reader::new(codes, 0);
     let mut j: usize = 0;
-    while r.link < link {
-        j = counted(reader::next(r), j);
-        r = reader::moved(r);
+    for _ in 0..link {
+        j = counted(r.next(), j);
+        r = r.moved();
     }
     j
 }

@@ -11,45 +11,48 @@ pub struct Reader<'a> {
     pub link: usize,
 }
 
+impl<'a> Reader<'a> {
+    pub fn new(codes: &'a [u16], link: usize) -> Reader<'a>
+        ensures { (result.codes ≡ codes.entry) × (result.link ≡ link) }
+    {
+        Reader { codes, link }
+    }
+
+    // The next link's code.
+    pub fn next(self) -> u16
+        ensures { result ≡ get_or self.entry.codes.now self.entry.link 0 }
+    {
+        code_at(self.codes, self.link)
+    }
+
+    // The reader moved on by one link.
+    pub fn moved(self) -> Reader<'a>
+        requires { self.link + 1 < 2 ^ 64 }
+        ensures { (result.codes ≡ self.entry.codes) × (result.link ≡ self.entry.link + 1) }
+    {
+        Reader {
+            codes: self.codes,
+            link: self.link + 1,
+        }
+    }
+}
+
 // The work: a link's code. Past the end of the list there is nothing to move, as at a fixed link.
 fn code_at(codes: &[u16], link: usize) -> u16
     ensures { result ≡ get_or codes.now link 0 }
 {
-    if link < codes.len() { codes[link] } else { 0 }
-}
-
-pub fn new<'a>(codes: &'a [u16], link: usize) -> Reader<'a>
-    ensures { (result.codes ≡ codes.entry) × (result.link ≡ link) }
-{
-    Reader { codes, link }
-}
-
-// The next link's code.
-pub fn next<'a>(r: Reader<'a>) -> u16
-    ensures { result ≡ get_or r.entry.codes.now r.entry.link 0 }
-{
-    code_at(r.codes, r.link)
-}
-
-// The reader moved on by one link.
-pub fn moved<'a>(r: Reader<'a>) -> Reader<'a>
-    requires { r.link + 1 < 2 ^ 64 }
-    ensures { (result.codes ≡ r.entry.codes) × (result.link ≡ r.entry.link + 1) }
-{
-    Reader {
-        codes: r.codes,
-        link: r.link + 1,
-    }
+    codes.get(link).copied().unwrap_or(0)
 }
 
 // A link's code.
 pub fn read(codes: &[u16], link: usize) -> u16
     ensures { result ≡ get_or codes.now link 0 }
 {
-    next(new(codes, link))
+    Reader::new(codes, link).next()
 }
 
 // What a link is.
+#[tactic(auto, unfolding(crate::specs::Read::kind_at))]
 pub fn kind_at(codes: &[u16], link: usize) -> Kind
     ensures { result ≡ kind_at codes.now link }
 {

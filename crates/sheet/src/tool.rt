@@ -2,6 +2,7 @@
 ghost use Rattle.std.specs.Prelude.{◌≡◌, ◌*◌, ◌<◌, length};
 ghost use Rattle.sheet.specs.Tool.{has_tool};
 
+#[tactic(auto, unfolding(crate::specs::Tool::has_tool))]
 pub fn has_tool(tools: &[f64], c: usize) -> bool
     requires { 8 * c < length tools.now }
     ensures { result ≡ has_tool tools.now c }

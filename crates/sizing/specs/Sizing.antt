@@ -1,6 +1,6 @@
 -- Sizing: the lengths of the frame lists and of the one-block record before any work, each by the definition that refusal 9 asks, and how many objectives there are.
-use Rattle.std.specs.Prelude.{◌≡◌, refl, Bool, true, false, cond, List, [], ◌∷◌, ℕ, zero, suc, ◌≤◌, ◌<◌, eqb, Float, length}
-use Rattle.std.proofs.Common.{sym, ap, ◌∙◌, true≢false, arith, eq-eqb, ne_eqb}
+use Rattle.std.specs.Prelude.{◌≡◌, refl, cond, List, [], ◌∷◌, ℕ, zero, suc, ◌≤◌, ◌<◌, eqb, Float, length, Result, Ok, Err}
+use Rattle.std.proofs.Common.{sym, ap, ◌∙◌, arith, eq-eqb, ne_eqb}
 use Rattle.sheet.specs.Chain.{total}
 use Rattle.task.specs.declared.picks.Picks.{Picks}
 use Rattle.objective_master.specs.Objective.{objective_count}
@@ -9,13 +9,13 @@ use Rattle.one_block.specs.Record.{entries_of}
 use Rattle.refusals.specs.Lengths.{positions_length, rotations_length, positions-most, rotations-most}
 use Rattle.refusals.specs.Lowest.{first-none}
 use Rattle.refusals.specs.Refusal.{links_of, shape_refusal, sizing_refusal}
-use Rattle.refusals.specs.Passed.{shape-passed, sizing-first}
+use Rattle.refusals.specs.Number.{paper_number, number_of, refusal_of, paper_number-some, number-of-refusal}
+use Rattle.refusals.specs.declared.refusal.Refusal.{Refusal}
+use Rattle.refusals.specs.Passed.{shape-passed, sizing-first, sizing-most}
 use Rattle.calls.specs.Arms.{Accepted, arms-passed}
 use Rattle.calls.specs.AcceptedTask.{shape_two}
 use Rattle.calls.specs.OneBlock.{entries-most}
 use Rattle.sizing.specs.declared.plan.Plan.{Plan}
-use Rattle.sizing.specs.declared.plan.Sizing.{Sizing}
-use Rattle.sizing.specs.declared.plan.Sizing.TheVariants.{Planned, Refused}
 
 -- floats of both frame lists, objectives of the list that is picked, entries of the one-block record; ns are the links per chain, cs the codes
 unfoldable pub plan_of : Picks → List ℕ → List ℕ → Plan
@@ -29,18 +29,13 @@ sheet_plan p sizes codes = plan_of p (links_of sizes) codes
 unfoldable pub plan_list : Plan → List ℕ
 plan_list plan = plan.positions ∷ plan.rotations ∷ plan.objectives ∷ plan.entries ∷ []
 
--- a plan, or the number of a refusal, which is not 0
-unfoldable pub planned_if : ℕ → Plan → Sizing
-planned_if number plan = cond (eqb number 0) (Planned plan) (Refused number)
+-- a plan, or the refusal of a number, which is not 0
+unfoldable pub planned_if : ℕ → Plan → Result Plan Refusal
+planned_if number plan = cond (eqb number 0) (Ok plan) (Err (refusal_of number))
 
 -- what sizing answers for a sheet
-unfoldable pub sizing_of : Picks → List ℕ → List ℕ → List Float → Sizing
+unfoldable pub sizing_of : Picks → List ℕ → List ℕ → List Float → Result Plan Refusal
 sizing_of p sizes codes floats = planned_if (sizing_refusal sizes codes floats) (sheet_plan p sizes codes)
-
--- the number of an answer: 0 with a plan
-abbrev pub sizing_number_of : Sizing → ℕ
-sizing_number_of (Planned plan) = 0
-sizing_number_of (Refused number) = number
 
 -- ---- laws
 pub plan-made : (picks : Picks) (ns cs : List ℕ) (p r o e : ℕ) → p ≡ positions_length ns → r ≡ rotations_length ns → o ≡ objective_count picks ns cs → e ≡ entries_of ns cs
@@ -55,56 +50,48 @@ pub record Small (plan : Plan) : Type 0 where
   pub objectives : plan.objectives < 65536
   pub entries : plan.entries < 65536
 
-abbrev plan_or : Plan → Sizing → Plan
-plan_or other (Planned plan) = plan
-plan_or other (Refused number) = other
-
-abbrev is_planned : Sizing → Bool
-is_planned (Planned plan) = true
-is_planned (Refused number) = false
-
-planned-if : (number : ℕ) (sheet plan : Plan) → planned_if number sheet ≡ Planned plan → (number ≡ 0) × (plan ≡ sheet)
+planned-if : (number : ℕ) (sheet plan : Plan) → planned_if number sheet ≡ Ok plan → (number ≡ 0) × (plan ≡ sheet)
 unfolding planned_if
-planned-if zero sheet plan e = (refl, sym (ap (plan_or sheet) e))
+planned-if zero sheet plan e = (refl, cc)
 planned-if (suc n) sheet plan e =
-    let z : suc n ≡ 0 = rw (ne_eqb (suc n) 0 (λ z. omega arith)) at (ap sizing_number_of e) in
-    absurd (omega (arith, z))
+    let z : Err (refusal_of (suc n)) ≡ Ok plan = rw (ne_eqb (suc n) 0 (λ z. omega arith)) at e in
+    cc
 
-refused-if : (number : ℕ) (sheet : Plan) (n : ℕ) → planned_if number sheet ≡ Refused n → (n ≡ 0 → ⊥) × (n ≡ number)
+number-if : (number : ℕ) (sheet : Plan) → number ≤ 11 → number_of (planned_if number sheet) ≡ number
 unfolding planned_if
-refused-if zero sheet n e = absurd (true≢false (ap is_planned e))
-refused-if (suc k) sheet n e =
-    let z : suc k ≡ n = rw (ne_eqb (suc k) 0 (λ z. omega arith)) at (ap sizing_number_of e) in
-    (λ q. omega (arith, z, q), sym z)
+number-if zero sheet few = refl
+number-if (suc k) sheet few = rw (ne_eqb (suc k) 0 (λ z. omega arith)) (number-of-refusal (suc k) (omega arith) few)
 
-number-if : (number : ℕ) (sheet : Plan) → sizing_number_of (planned_if number sheet) ≡ number
-unfolding planned_if
-number-if zero sheet = refl
-number-if (suc k) sheet = rw (ne_eqb (suc k) 0 (λ z. omega arith))
+refused-if : (number : ℕ) (sheet : Plan) (e : Refusal) → number ≤ 11 → planned_if number sheet ≡ Err e → (paper_number e ≡ 0 → ⊥) × (paper_number e ≡ number)
+refused-if number sheet e few same =
+    (λ z. omega (arith, paper_number-some e, z), sym (ap number_of same) ∙ number-if number sheet few)
 
 module _ (p : Picks) (sizes codes : List ℕ) (floats : List Float) where
+  few : sizing_refusal sizes codes floats ≤ 11
+  few = omega (arith, sizing-most sizes codes floats)
+
   -- the number is the lowest of those of loading but 5
-  pub sizing-number : sizing_number_of (sizing_of p sizes codes floats) ≡ sizing_refusal sizes codes floats
+  pub sizing-number : number_of (sizing_of p sizes codes floats) ≡ sizing_refusal sizes codes floats
   unfolding sizing_of
-  sizing-number = number-if (sizing_refusal sizes codes floats) (sheet_plan p sizes codes)
+  sizing-number = number-if (sizing_refusal sizes codes floats) (sheet_plan p sizes codes) few
 
   -- a plan is answered for a sheet that is taken, and is that sheet's
-  pub planned-is : (plan : Plan) → sizing_of p sizes codes floats ≡ Planned plan → (sizing_refusal sizes codes floats ≡ 0) × (plan ≡ sheet_plan p sizes codes)
+  pub planned-is : (plan : Plan) → sizing_of p sizes codes floats ≡ Ok plan → (sizing_refusal sizes codes floats ≡ 0) × (plan ≡ sheet_plan p sizes codes)
   unfolding sizing_of
   planned-is plan e = planned-if (sizing_refusal sizes codes floats) (sheet_plan p sizes codes) plan e
 
   -- and a refusal has the sheet's number, which is not 0
-  pub refused-is : (n : ℕ) → sizing_of p sizes codes floats ≡ Refused n → (n ≡ 0 → ⊥) × (n ≡ sizing_refusal sizes codes floats)
+  pub refused-is : (e : Refusal) → sizing_of p sizes codes floats ≡ Err e → (paper_number e ≡ 0 → ⊥) × (paper_number e ≡ sizing_refusal sizes codes floats)
   unfolding sizing_of
-  refused-is n e = refused-if (sizing_refusal sizes codes floats) (sheet_plan p sizes codes) n e
+  refused-is e same = refused-if (sizing_refusal sizes codes floats) (sheet_plan p sizes codes) e few same
 
-  pub sizing-refused : (sizing_refusal sizes codes floats ≡ 0 → ⊥) → sizing_of p sizes codes floats ≡ Refused (sizing_refusal sizes codes floats)
+  pub sizing-refused : (sizing_refusal sizes codes floats ≡ 0 → ⊥) → sizing_of p sizes codes floats ≡ Err (refusal_of (sizing_refusal sizes codes floats))
   unfolding sizing_of planned_if
   sizing-refused h = rw (ne_eqb _ 0 h)
 
   -- a sheet that sizing takes
   module _ (e : sizing_refusal sizes codes floats ≡ 0) where
-    pub sizing-taken : sizing_of p sizes codes floats ≡ Planned (sheet_plan p sizes codes)
+    pub sizing-taken : sizing_of p sizes codes floats ≡ Ok (sheet_plan p sizes codes)
     unfolding sizing_of planned_if
     sizing-taken = rw (eq-eqb _ 0 e)
 

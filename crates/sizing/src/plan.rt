@@ -1,4 +1,4 @@
-// What sizing answers: the lengths with which the frame lists and the record can be reserved, or a refusal's number.
+// The lengths with which the frame lists and the record of a sheet can be reserved.
 ghost use Rattle.std.specs.Prelude.{◌≡◌};
 ghost use Rattle.calls.specs.Arms.{Accepted};
 ghost use Rattle.sizing.specs.Sizing.{plan_of};
@@ -17,12 +17,6 @@ pub struct Plan {
     pub entries: usize,
 }
 
-#[derive(Clone, Copy)]
-pub enum Sizing {
-    Planned(Plan),
-    Refused(u16),
-}
-
 // The plan of a good sheet.
 pub(crate) fn of_sheet(counts: &[u16], codes: &[u16], floats: &[f64], picks: Picks) -> Plan
     requires { Accepted counts.now codes.now floats.now }
@@ -33,9 +27,9 @@ pub(crate) fn of_sheet(counts: &[u16], codes: &[u16], floats: &[f64], picks: Pic
     let objectives = count::objective_count(counts, codes, picks);
     let entries = grad::entries(counts, codes);
     Plan {
-        positions: positions,
-        rotations: rotations,
-        objectives: objectives,
-        entries: entries,
+        positions,
+        rotations,
+        objectives,
+        entries,
     }
 }

@@ -19,13 +19,7 @@ use sheet::{chain, reader};
 fn is_none(o: Quat) -> bool
     ensures { result ≡ is_none o }
 {
-    if o.i != 0.0 {
-        return false;
-    }
-    if o.j != 0.0 {
-        return false;
-    }
-    o.k == 0.0
+    o.i == 0.0 && o.j == 0.0 && o.k == 0.0
 }
 
 fn offset(q: Quat, o: Quat) -> Quat
@@ -93,10 +87,9 @@ fn joint_turn(kind: Kind, v: f64) -> Quat
 {
     match kind {
         Kind::Turning(axis) => turn(axis, v),
-        Kind::Sliding(_) => quaternion::identity(),
-        Kind::Telescoping(_) => quaternion::identity(),
-        Kind::Fixed => quaternion::identity(),
-        Kind::Unlisted => quaternion::identity(),
+        Kind::Sliding(_) | Kind::Telescoping(_) | Kind::Fixed | Kind::Unlisted => {
+            quaternion::identity()
+        }
     }
 }
 
@@ -116,10 +109,7 @@ fn turned(kind: Kind, q: Quat, t: Quat) -> Quat
 {
     match kind {
         Kind::Turning(axis) => about(axis, q, t),
-        Kind::Sliding(_) => q,
-        Kind::Telescoping(_) => q,
-        Kind::Fixed => q,
-        Kind::Unlisted => q,
+        Kind::Sliding(_) | Kind::Telescoping(_) | Kind::Fixed | Kind::Unlisted => q,
     }
 }
 
@@ -162,11 +152,8 @@ fn moved(kind: Kind, p: Pose, d: Vec3, v: f64) -> Vec3
 {
     let c = carried(p, d);
     match kind {
-        Kind::Turning(_) => c,
         Kind::Sliding(axis) => slid(p.position, c, axis, v),
-        Kind::Telescoping(_) => c,
-        Kind::Fixed => c,
-        Kind::Unlisted => c,
+        Kind::Turning(_) | Kind::Telescoping(_) | Kind::Fixed | Kind::Unlisted => c,
     }
 }
 
@@ -175,11 +162,8 @@ fn extended(kind: Kind, at: Vec3, rotation: Quat, v: f64) -> Vec3
     ensures { result ≡ extended_of kind at rotation v }
 {
     match kind {
-        Kind::Turning(_) => at,
-        Kind::Sliding(_) => at,
         Kind::Telescoping(axis) => telescoped(at, rotation, axis, v),
-        Kind::Fixed => at,
-        Kind::Unlisted => at,
+        Kind::Turning(_) | Kind::Sliding(_) | Kind::Fixed | Kind::Unlisted => at,
     }
 }
 
@@ -242,13 +226,11 @@ fn put_turns(codes: &[u16], block: &[f64], turns: &mut [f64])
     ensures { turns.new ≡ splice turns.old 0 (turns_of codes.now block.now) }
 {
     let mut joint: usize = 0;
-    let mut at: usize = 0;
-    while at < codes.len() {
+    for at in 0..codes.len() {
         let v = value(codes, block, at, joint);
         let t = joint_turn(reader::kind_at(codes, at), v);
         floats::put_quat(turns, 4 * at, t);
         joint = chain::next_joint(codes, at, joint);
-        at += 1;
     }
 }
 
@@ -276,12 +258,10 @@ fn walk_rotations(counts: &[u16], codes: &[u16], floats: &[f64], turns: &mut [f6
     ensures { turns.new ≡ splice turns.old 0 (rotations_by counts.now codes.now floats.now turns.old) }
 {
     let mut q = quaternion::identity();
-    let mut at: usize = 0;
-    while at < codes.len() {
+    for at in 0..codes.len() {
         let t = floats::get_quat(turns, 4 * at);
         q = after_turn(codes, floats, start_rotation(counts, at, q), at, t);
         floats::put_quat(turns, 4 * at, q);
-        at += 1;
     }
 }
 
@@ -326,8 +306,7 @@ fn walk(
 {
     let mut p = pose::origin();
     let mut joint: usize = 0;
-    let mut at: usize = 0;
-    while at < codes.len() {
+    for at in 0..codes.len() {
         p = after_known(
             start(counts, at, p),
             codes,
@@ -339,7 +318,6 @@ fn walk(
         );
         floats::put(out, 7 * at, p);
         joint = chain::next_joint(codes, at, joint);
-        at += 1;
     }
 }
 

@@ -9,15 +9,14 @@ ghost use Rattle.spacetime.specs.Frames.{Chains, position_at, rotation_at, posit
 use crate::{floats, tool};
 use geometry::{quaternion, vector};
 
+// Kept: positions and rotations go apart, here and below. They differ in stride, head and tail, and a trait that says so, with its laws, is longer than the loops that it saves.
 fn link_positions(poses: &[f64], from: usize, n: usize, out: &mut [f64], at: usize)
     requires { (7 * (from + n) ≤ length poses.now) × (at + 3 * n ≤ length out.old) }
     ensures { out.new ≡ splice out.old at (runs (position_at (list_pose poses.now)) from n) }
 {
-    let mut i: usize = 0;
-    while i < n {
+    for i in 0..n {
         let v = floats::get_vec(poses, 7 * (from + i));
         floats::put_vec(out, at + 3 * i, v);
-        i += 1;
     }
 }
 
@@ -25,11 +24,9 @@ fn link_rotations(poses: &[f64], from: usize, n: usize, out: &mut [f64], at: usi
     requires { (7 * (from + n) ≤ length poses.now) × (at + 4 * n ≤ length out.old) }
     ensures { out.new ≡ splice out.old at (runs (rotation_at (list_pose poses.now)) from n) }
 {
-    let mut i: usize = 0;
-    while i < n {
+    for i in 0..n {
         let q = floats::get_quat(poses, 7 * (from + i) + 3);
         floats::put_quat(out, at + 4 * i, q);
-        i += 1;
     }
 }
 
@@ -58,12 +55,10 @@ pub fn put_positions(counts: &[u16], poses: &[f64], out: &mut [f64])
     ensures { out.new ≡ splice out.old 0 (positions_of counts.now (list_pose poses.now)) }
 {
     let mut from: usize = 0;
-    let mut c: usize = 0;
-    while c < counts.len() {
-        let n = counts[c] as usize;
+    for (c, n) in counts.iter().enumerate() {
+        let n = *n as usize;
         chain_positions(poses, from, n, out, 3 * (from + c));
         from += n;
-        c += 1;
     }
 }
 
@@ -74,12 +69,10 @@ pub fn put_rotations(counts: &[u16], poses: &[f64], out: &mut [f64])
     ensures { out.new ≡ splice out.old 0 (rotations_of counts.now (list_pose poses.now)) }
 {
     let mut from: usize = 0;
-    let mut c: usize = 0;
-    while c < counts.len() {
-        let n = counts[c] as usize;
+    for (c, n) in counts.iter().enumerate() {
+        let n = *n as usize;
         chain_rotations(poses, from, n, out, 4 * (from + 2 * c));
         from += n;
-        c += 1;
     }
 }
 
@@ -90,11 +83,9 @@ pub fn put_ends(counts: &[u16], tools: &[f64], poses: &[f64], out: &mut [f64])
     ensures { out.new ≡ splice out.old 0 (ends_of counts.now tools.now (list_pose poses.now)) }
 {
     let mut from: usize = 0;
-    let mut c: usize = 0;
-    while c < counts.len() {
-        from += counts[c] as usize;
+    for (c, n) in counts.iter().enumerate() {
+        from += *n as usize;
         let last = floats::get(poses, 7 * (from - 1));
         floats::put(out, 7 * c, tool::tip(tools, c, last));
-        c += 1;
     }
 }

@@ -4,6 +4,7 @@ ghost use Rattle.standins.specs.Num.{abs_of};
 ghost use Rattle.standins.specs.Cut.{cut_of};
 
 // num's `clamp` to 0..1 too.
+#[tactic(auto, unfolding(crate::specs::Cut::cut_of))]
 pub fn cut(x: f64) -> f64
     ensures { result ≡ cut_of x }
 {

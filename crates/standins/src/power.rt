@@ -2,6 +2,7 @@
 ghost use Rattle.std.specs.Prelude.{◌≡◌};
 ghost use Rattle.standins.specs.Power.{power20_of, power30_of, b20, b30, IsB};
 
+#[tactic(auto, unfolding(crate::specs::Power::power20_of, crate::specs::Series::squarings, crate::specs::Series::down_from))]
 pub fn power20(a: f64) -> f64
     ensures { result ≡ power20_of a }
 {
@@ -11,6 +12,7 @@ pub fn power20(a: f64) -> f64
     a4 * (a8 * a8)
 }
 
+#[tactic(auto, unfolding(crate::specs::Power::power30_of, crate::specs::Series::squarings, crate::specs::Series::down_from))]
 pub fn power30(a: f64) -> f64
     ensures { result ≡ power30_of a }
 {

@@ -4,6 +4,7 @@ ghost use Rattle.standins.specs.Reduction.{turned_of, reduced_of};
 
 const TURN: f64 = 6.283185307179586;
 
+#[tactic(auto, unfolding(crate::specs::Reduction::turned_of))]
 fn turned(a: f64) -> f64
     ensures { result ≡ turned_of a }
 {

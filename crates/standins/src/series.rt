@@ -29,26 +29,25 @@ fn both_series(a: f64) -> BothSeries
     let q = angle * angle;
     let mut s = 1.0;
     let mut c = 1.0;
-    let mut n: usize = 16;
-    while n > 0 {
+    for n in (1..17).rev() {
         s = 1.0 - s * q / divisor(2 * n);
         c = 1.0 - c * q / divisor(2 * n - 1);
-        n -= 1;
     }
     BothSeries {
-        angle: angle,
+        angle,
         sine: s,
         cosine: c,
     }
 }
 
 // The sine and the cosine of one angle.
-#[derive(Clone, Copy)]
+#[derive(Clone, Copy, Debug, PartialEq)]
 pub struct SineCosine {
     pub sine: f64,
     pub cosine: f64,
 }
 
+#[tactic(auto, unfolding(crate::specs::Series::sine_of, crate::specs::Series::cosine_of, crate::specs::Series::sine_series_of, crate::specs::Series::cosine_series_of))]
 pub fn sine_cosine(a: f64) -> SineCosine
     ensures { result ≡ sine_cosine_of a }
 {
@@ -59,6 +58,7 @@ pub fn sine_cosine(a: f64) -> SineCosine
     }
 }
 
+#[tactic(auto, unfolding(crate::specs::Series::sine_of, crate::specs::Series::sine_series_of))]
 pub fn sin(a: f64) -> f64
     ensures { result ≡ sine_of a }
 {
@@ -66,6 +66,7 @@ pub fn sin(a: f64) -> f64
     both.angle * both.sine
 }
 
+#[tactic(auto, unfolding(crate::specs::Series::cosine_of, crate::specs::Series::cosine_series_of))]
 pub fn cos(a: f64) -> f64
     ensures { result ≡ cosine_of a }
 {
@@ -77,10 +78,8 @@ fn exp_series(z: f64) -> f64
     ensures { result ≡ exp_series_of z }
 {
     let mut e = 1.0;
-    let mut n: usize = 18;
-    while n > 0 {
+    for n in (1..19usize).rev() {
         e = 1.0 + e * z / (n as f64);
-        n -= 1;
     }
     e
 }
@@ -89,10 +88,8 @@ fn squared(a: f64, times: usize) -> f64
     ensures { result ≡ squarings times a }
 {
     let mut e = a;
-    let mut k = times;
-    while k > 0 {
+    for _ in 0..times {
         e = e * e;
-        k -= 1;
     }
     e
 }
@@ -114,6 +111,7 @@ pub fn exp(y: f64) -> f64
 }
 
 // The tangent of half the angle whose tangent is r.
+#[tactic(auto, unfolding(crate::specs::Series::halved_of))]
 fn halved(r: f64) -> f64
     ensures { result ≡ halved_of r }
 {
@@ -125,10 +123,8 @@ fn arc_series(r: f64) -> f64
 {
     let q = r * r;
     let mut s = 1.0 / 25.0;
-    let mut n: usize = 12;
-    while n > 0 {
+    for n in (1..13usize).rev() {
         s = 1.0 / ((2 * n - 1) as f64) - s * q;
-        n -= 1;
     }
     s
 }
@@ -142,6 +138,7 @@ fn small_angle(r: f64) -> f64
 }
 
 // The angle whose tangent is n/w, for n > 0 and w >= 0.
+#[tactic(auto, unfolding(crate::specs::Series::atan2_of))]
 pub fn atan2(n: f64, w: f64) -> f64
     ensures { result ≡ atan2_of n w }
 {

@@ -1,11 +1,22 @@
 -- Loading: the sheet is stored, each list with zeros behind it; goals, history and tools are cleared, weights are kept. A refusal keeps the old state.
-use Rattle.std.specs.Prelude.{◌≡◌, refl, Bool, true, false, List, ℕ, eqb, Float, replicate}
+use Rattle.std.specs.Prelude.{◌≡◌, refl, Bool, true, false, List, ℕ, eqb, Float, replicate, Result, Ok, Err}
 use Rattle.lists.specs.Splice.{splice}
+use Rattle.refusals.specs.declared.refusal.Refusal.{Refusal}
+use Rattle.refusals.specs.Number.{paper_number}
 use Rattle.refusals.specs.Refusal.{load_refusal}
 use Rattle.state_calls.specs.declared.state.Arms.{Arms}
 use Rattle.state_calls.specs.declared.state.State.{State}
-use Rattle.state_calls.specs.declared.state.Outcome.{Outcome}
 use Rattle.state_calls.specs.State.{zeros, empty_party}
+
+-- a call's number, 0 where it was accepted, and the state after it
+pub record Outcome : Type 0 where
+  pub number : ℕ
+  pub state : State
+
+-- what an answer says: a refusal leaves the old state
+abbrev pub answered : State → Result State Refusal → Outcome
+answered old (Ok new) = record { number = 0; state = new }
+answered old (Err e) = record { number = paper_number e; state = old }
 
 unfoldable pub arms_of : List ℕ → List ℕ → List Float → List Float → Arms
 arms_of sizes codes floats limits = record {

@@ -1,12 +1,12 @@
 -- The objective and its gradients, by the state.
 use Rattle.std.specs.Prelude.{◌≡◌, Bool, true, ℕ, Float, take}
-use Rattle.std.proofs.Math.Path.{ap}
+use Rattle.std.proofs.Math.Path.{refl, ap}
 use Rattle.std.proofs.Common.{◌∙◌, arith, take_all}
 use mathlib.Core.List.{List}
 use Rattle.std.proofs.Math.ListN.{length}
 use Rattle.lists.specs.Splice.{splice}
 use Rattle.task.specs.declared.picks.Picks.{Picks}
-use Rattle.task.specs.Task.{task_length, Given}
+use Rattle.task.specs.Task.{task_length, Given, given_of}
 use Rattle.task.specs.Laid.{Apart, Fit, Full, laid, given_apart, laid-given}
 use Rattle.objective_master.specs.Weights.{in-force-eight}
 use Rattle.gradient.specs.declared.slopes.Rule.{Rule}
@@ -14,7 +14,8 @@ use Rattle.gradient.specs.Gradient.{value_at, slopes_of, gradient_of, finite_dif
 use Rattle.calls.specs.Arms.{Accepted, if_taken}
 use Rattle.calls.specs.Answer.{value_if}
 use Rattle.state_calls.specs.declared.state.State.{State}
-use Rattle.state_calls.specs.State.{links_used, codes_used, floats_used, limits_used, tools_used, goals_used, block_used, have_sheet}
+use Rattle.state_calls.specs.declared.state.InUse.{InUse}
+use Rattle.state_calls.specs.State.{links_used, codes_used, floats_used, limits_used, tools_used, goals_used, block_used, have_sheet, IsInUse}
 use Rattle.state_calls.specs.StoredSheet.{stored-accepted}
 use Rattle.state_calls.specs.StoredTask.{objective_stored, slopes_stored, after_state, given_stored, weights_in_force, apart_of, state-have, value-under, taken-under}
 
@@ -108,3 +109,15 @@ module _ (s : State) (picks : Picks) (t task : List Float) (l : Lists s) (whole 
     pub slopes-laid : (rule : Rule) (old : List Float)
         → if_taken n old (splice old 0 (slopes_of rule (given_stored ss cs task picks) (link_floats s) x)) ≡ if_taken n old (splice old 0 (slopes_of rule (given_state s picks.strict) (link_floats s) x))
     slopes-laid rule old = taken-under n old _ _ (λ z. ap (λ (g : Given). splice old 0 (slopes_of rule g (link_floats s) x)) (given-taken z))
+
+  -- so does a call on what is in use of the sheet
+  module _ (u : InUse) (i : IsInUse s.arms u) (x : List Float) where
+    given-in-use : given_of u.counts.now u.codes.now task picks ≡ given_state s picks.strict
+    unfolding given_stored
+    given-in-use = rw (i.counts, i.codes) (given-laid i.have)
+
+    pub value-in-use : value_at (given_of u.counts.now u.codes.now task picks) u.floats.now x ≡ objective_value_of s picks.strict x
+    value-in-use = rw (given-in-use, i.floats) refl
+
+    pub slopes-in-use : (rule : Rule) → slopes_of rule (given_of u.counts.now u.codes.now task picks) u.floats.now x ≡ slopes_of rule (given_state s picks.strict) (link_floats s) x
+    slopes-in-use rule = rw (given-in-use, i.floats) refl

@@ -7,9 +7,8 @@ use Rattle.refusals.specs.Passed.{shape-passed, goals-passed, block-passed}
 use Rattle.groove.specs.Vars.{padded, reset_of, update_of}
 use Rattle.state_calls.specs.declared.state.Party.{Party}
 use Rattle.state_calls.specs.declared.state.State.{State}
-use Rattle.state_calls.specs.declared.state.Outcome.{Outcome}
 use Rattle.state_calls.specs.State.{zeros, links_used, stored}
-use Rattle.state_calls.specs.Load.{outcome_of}
+use Rattle.state_calls.specs.Load.{Outcome, outcome_of}
 use Rattle.state_calls.specs.StoredSheet.{block_stored, goals_stored, update_stored, there}
 use Rattle.state_calls.specs.Arms.{poses_of}
 

@@ -1,6 +1,6 @@
 -- What a plan promises of the calls on the state: `sizing` answered it for a sheet, and that sheet is loaded. With lists of the planned lengths no call answers
 -- 9 for them; one entry fewer in any of them, and it does, where no earlier refusal applies.
-use Rattle.std.specs.Prelude.{◌≡◌, Bool, List, ℕ, ◌≤◌, Float}
+use Rattle.std.specs.Prelude.{◌≡◌, Bool, Ok, List, ℕ, ◌≤◌, Float}
 use Rattle.std.proofs.Math.Path.{refl, ap}
 use Rattle.std.proofs.Common.{sym, ◌∙◌, subst, arith, ne_eqb}
 use Rattle.std.proofs.Math.Bool.{true, false}
@@ -13,7 +13,6 @@ use Rattle.refusals.specs.Passed.{load-sizing, sizing-load, room-enough, block-m
 use Rattle.calls.specs.Frames.{frames_refusal}
 use Rattle.calls.specs.OneBlock.{one_block_refusal}
 use Rattle.sizing.specs.declared.plan.Plan.{Plan}
-use Rattle.sizing.specs.declared.plan.Sizing.TheVariants.{Planned}
 use Rattle.sizing.specs.Sizing.{sheet_plan, sizing_of, sizing-taken, planned-is}
 use Rattle.sizing.specs.Planned.{FramesRoom, FramesShort, RecordRoom, RecordShort, frames-planned, frames-short, one-block-planned, one-block-short}
 use Rattle.state_calls.specs.declared.state.Arms.{Arms}
@@ -53,18 +52,18 @@ module _ (s : State) (sizes codes : List ℕ) (floats limits : List Float) where
 
   -- ---- sizing and loading
   -- a sheet that load takes is taken by sizing
-  pub load-then-sizing : (picks : Picks) → (load_of s sizes codes floats limits).number ≡ 0 → sizing_of picks sizes codes floats ≡ Planned (sheet_plan picks sizes codes)
+  pub load-then-sizing : (picks : Picks) → (load_of s sizes codes floats limits).number ≡ 0 → sizing_of picks sizes codes floats ≡ Ok (sheet_plan picks sizes codes)
   unfolding load_of outcome_of
   load-then-sizing picks e = sizing-taken picks sizes codes floats (load-sizing sizes codes floats limits e)
 
   -- one that sizing takes, with good limits, by load
-  pub sizing-then-load : (picks : Picks) (plan : Plan) → sizing_of picks sizes codes floats ≡ Planned plan → bad_limits (joints codes) limits ≡ false
+  pub sizing-then-load : (picks : Picks) (plan : Plan) → sizing_of picks sizes codes floats ≡ Ok plan → bad_limits (joints codes) limits ≡ false
       → (load_of s sizes codes floats limits).number ≡ 0
   unfolding load_of outcome_of
   sizing-then-load picks plan e good = sizing-load sizes codes floats limits (planned-is picks sizes codes floats plan e).0 good
 
 -- ---- the calls
-module _ (picks : Picks) (sizes codes : List ℕ) (floats : List Float) (plan : Plan) (answered : sizing_of picks sizes codes floats ≡ Planned plan) (s : State) (held : Holds sizes codes s.arms) (x : List Float) where
+module _ (picks : Picks) (sizes codes : List ℕ) (floats : List Float) (plan : Plan) (answered : sizing_of picks sizes codes floats ≡ Ok plan) (s : State) (held : Holds sizes codes s.arms) (x : List Float) where
   own : plan ≡ sheet_plan picks sizes codes
   own = (planned-is picks sizes codes floats plan answered).1
 

@@ -9,7 +9,7 @@ use Rattle.state_calls.specs.declared.state.Arms.{Arms}
 use Rattle.state_calls.specs.declared.state.Weights.{Weights}
 use Rattle.state_calls.specs.declared.state.Party.{Party}
 use Rattle.state_calls.specs.declared.state.State.{State}
-use Rattle.state_calls.specs.declared.state.Counts.{Counts}
+use Rattle.state_calls.specs.declared.state.InUse.{InUse}
 
 -- floats behind a list's own, up to n in all
 abbrev pub zeros : ℕ → List Float
@@ -71,27 +71,19 @@ have_sheet ss cs =
     (cond (ltb 64 (total (links_used ss))) false
     (eqb (shape_refusal (sizes_used ss) (codes_used ss cs) (7 * total (links_used ss))) 0))
 
-abbrev pub counts_if : Bool → Counts → Counts → Counts
-counts_if true a b = a
-counts_if false a b = b
+-- 20 where they are not
+abbrev pub arms_number : List ℕ → List ℕ → ℕ
+arms_number ss cs = cond (have_sheet ss cs) 0 20
 
--- chains and links in use, none where there are no arms
-unfoldable pub counts_of : List ℕ → List ℕ → Counts
-counts_of ss cs = counts_if (have_sheet ss cs) (record { loaded = true; chains = get_or ss 0 0; links = total (links_used ss) }) (record { loaded = false; chains = 0; links = 0 })
+-- what is in use of a stored sheet
+pub record IsInUse (a : Arms) (u : InUse) : Type 0 where
+  pub have : have_sheet a.sizes a.codes ≡ true
+  pub chains : length u.counts.now ≡ get_or a.sizes 0 0
+  pub counts : u.counts.now ≡ links_used a.sizes
+  pub codes : u.codes.now ≡ codes_used a.sizes a.codes
+  pub floats : u.floats.now ≡ floats_used a.sizes a.floats
 
--- ---- laws: what the counts tell
-pub counts-loaded : (ss cs : List ℕ) → (counts_of ss cs).loaded ≡ have_sheet ss cs
-unfolding counts_of
-counts-loaded ss cs = pick (have_sheet ss cs)
-  where
-    pick : (t : Bool) → (counts_if t (record { loaded = true; chains = get_or ss 0 0; links = total (links_used ss) }) (record { loaded = false; chains = 0; links = 0 })).loaded ≡ t
-    pick true = refl
-    pick false = refl
-
-pub counts-are : (ss cs : List ℕ) → have_sheet ss cs ≡ true → ((counts_of ss cs).chains ≡ get_or ss 0 0) × ((counts_of ss cs).links ≡ total (links_used ss))
-unfolding counts_of
-counts-are ss cs e = rw e (refl, refl)
-
+-- ---- laws
 -- what a stored sheet has
 pub record Stored (ss cs : List ℕ) : Type 0 where
   pub few : get_or ss 0 0 ≤ 4

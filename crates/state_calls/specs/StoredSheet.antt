@@ -1,9 +1,8 @@
 -- The calls on a stored sheet: their numbers, 20 where there are no arms.
-use Rattle.std.specs.Prelude.{◌≡◌, refl, Bool, true, false, cond, not, List, [], ◌∷◌, ℕ, zero, suc, ◌+◌, ◌-◌, ◌*◌, ◌≤◌, Float, length, drop}
+use Rattle.std.specs.Prelude.{◌≡◌, refl, Bool, true, false, cond, List, [], ◌∷◌, ℕ, zero, suc, ◌+◌, ◌*◌, ◌≤◌, Float, length, drop}
 use Rattle.std.proofs.Common.{sym, ◌∙◌, subst, add-one, arith, length-take, length-take-le}
 use Rattle.std.proofs.Math.Path.{ap}
 use Rattle.std.proofs.Math.Nat.{min-le_left}
-use Rattle.std.proofs.lemmas.Bool.{not-true, not-false}
 use Rattle.std.proofs.Math.ListN.{take, get_or}
 use Rattle.geometry.specs.declared.pose.Pose.{Pose}
 use Rattle.sheet.specs.Chain.{total}
@@ -12,8 +11,9 @@ use Rattle.manipulability.specs.Jacobian.{manipulability_of}
 use Rattle.refusals.specs.Refusal.{shape_refusal, block_refusal, goals_refusal, tool_refusal}
 use Rattle.calls.specs.Arms.{Accepted, arms-passed}
 use Rattle.calls.specs.Frames.{frames_refusal, pose_refusal, pose-room}
-use Rattle.state_calls.specs.State.{sizes_used, links_used, codes_used, floats_used, have_sheet, counts_of, counts-loaded, counts-are, Stored, stored}
-use Rattle.state_calls.specs.declared.state.Counts.{Counts}
+use Rattle.state_calls.specs.State.{sizes_used, links_used, codes_used, floats_used, have_sheet, IsInUse, Stored, stored}
+use Rattle.state_calls.specs.declared.state.Arms.{Arms}
+use Rattle.state_calls.specs.declared.state.InUse.{InUse}
 
 unfoldable pub if_arms : List ℕ → List ℕ → ℕ → ℕ
 if_arms ss cs number = cond (have_sheet ss cs) number 20
@@ -67,7 +67,7 @@ there ss cs n e = pick (have_sheet ss cs) e
     pick true e = (refl, e)
     pick false e = absurd (omega arith)
 
-links-length : (ss : List ℕ) → length (links_used ss) ≤ get_or ss 0 0
+pub links-length : (ss : List ℕ) → length (links_used ss) ≤ get_or ss 0 0
 unfolding links_used
 links-length ss = simp length-take (min-le_left _ _)
 
@@ -85,54 +85,12 @@ stored-accepted ss cs gs lc lg e =
     subst (λ (ns : List ℕ). Accepted ns (codes_used ss cs) (floats_used ss gs)) (drop-take (get_or ss 0 0) ss)
     (arms-passed (sizes_used ss) (codes_used ss cs) (floats_used ss gs) (ap (shape_refusal (sizes_used ss) (codes_used ss cs)) w ∙ s.shape))
 
--- ---- what the counts of a stored sheet tell its callers
-pub record Used (ss cs : List ℕ) (n : Counts) : Type 0 where
-  pub have : have_sheet ss cs ≡ true
-  pub chains : n.chains ≡ get_or ss 0 0
-  pub links : n.links ≡ total (links_used ss)
-  pub few : n.chains ≤ 4
-  pub most : n.links ≤ 64
+-- what is in use is an accepted sheet's
+pub in-use-accepted : (a : Arms) (u : InUse) → length a.codes ≡ 64 → length a.floats ≡ 448 → IsInUse a u → Accepted u.counts.now u.codes.now u.floats.now
+in-use-accepted a u lc lg i = rw (i.counts, i.codes, i.floats) (stored-accepted a.sizes a.codes a.floats lc lg i.have)
 
-module _ (ss cs : List ℕ) (n : Counts) (e : n ≡ counts_of ss cs) where
-  pub used : not n.loaded ≡ false → Used ss cs n
-  used h =
-      let t : have_sheet ss cs ≡ true = sym (counts-loaded ss cs) ∙ sym (ap (λ (k : Counts). k.loaded) e) ∙ not-false _ h in
-      let k = counts-are ss cs t in
-      let s : Stored ss cs = stored ss cs t in
-      let c : n.chains ≡ get_or ss 0 0 = ap (λ (m : Counts). m.chains) e ∙ k.0 in
-      let l : n.links ≡ total (links_used ss) = ap (λ (m : Counts). m.links) e ∙ k.1 in
-      record { have = t; chains = c; links = l; few = omega (arith, s.few); most = omega (arith, s.links) }
-
-  pub unused : not n.loaded ≡ true → have_sheet ss cs ≡ false
-  unused h = sym (counts-loaded ss cs) ∙ sym (ap (λ (k : Counts). k.loaded) e) ∙ not-true _ h
-
--- the parts that are lent are those in use
-module _ (ss cs : List ℕ) (gs : List Float) (n : Counts) (u : Used ss cs n) where
-  pub links-part : take (n.chains + 1 - 1) (drop 1 ss) ≡ links_used ss
-  unfolding links_used
-  links-part = let z : n.chains + 1 - 1 ≡ get_or ss 0 0 = omega (arith, u.chains) in ap (λ (k : ℕ). take k (drop 1 ss)) z
-
-  pub codes-part : take n.links cs ≡ codes_used ss cs
-  unfolding codes_used
-  codes-part = ap (λ (k : ℕ). take k cs) u.links
-
-  pub floats-part : take (7 * n.links) gs ≡ floats_used ss gs
-  unfolding floats_used
-  floats-part = ap (λ (k : ℕ). take (7 * k) gs) u.links
-
-  pub parts_are : {X : Type 0} (F : List ℕ → List ℕ → List Float → X)
-      → F (take (n.chains + 1 - 1) (drop 1 ss)) (take n.links cs) (take (7 * n.links) gs) ≡ F (links_used ss) (codes_used ss cs) (floats_used ss gs)
-  parts_are F =
-      ap (λ (ns : List ℕ). F ns (take n.links cs) (take (7 * n.links) gs)) links-part
-      ∙ ap (λ (k : List ℕ). F (links_used ss) k (take (7 * n.links) gs)) codes-part
-      ∙ ap (F (links_used ss) (codes_used ss cs)) floats-part
-
-  -- so they are an accepted sheet's
-  pub accepted-parts : length cs ≡ 64 → length gs ≡ 448 → Accepted (take (n.chains + 1 - 1) (drop 1 ss)) (take n.links cs) (take (7 * n.links) gs)
-  accepted-parts lc lg =
-      subst (λ (ns : List ℕ). Accepted ns (take n.links cs) (take (7 * n.links) gs)) (sym links-part)
-      (subst (λ (k : List ℕ). Accepted (links_used ss) k (take (7 * n.links) gs)) (sym codes-part)
-      (subst (λ (g : List Float). Accepted (links_used ss) (codes_used ss cs) g) (sym floats-part) (stored-accepted ss cs gs lc lg u.have)))
+-- what a call on what is in use knows
+pub ruleset in_use = (in-use-accepted, links-length)
 
 -- ---- end poses always find room in 28 floats, so only the arms and the block are asked
 pub pose-kept : (ss cs : List ℕ) (x : List Float) → pose_stored ss cs x 28 ≡ block_stored ss cs x
@@ -142,3 +100,7 @@ pose-kept ss cs x = pick (have_sheet ss cs) refl
     pick : (t : Bool) → have_sheet ss cs ≡ t → cond t (pose_refusal (links_used ss) (codes_used ss cs) x 28) 20 ≡ cond t (block_refusal (codes_used ss cs) x) 20
     pick true e = pose-room (links_used ss) (codes_used ss cs) x (omega (arith, links-length ss, (stored ss cs e).few))
     pick false e = refl
+
+pub pose-in-use : (a : Arms) (u : InUse) (x : List Float) (n : ℕ) → IsInUse a u → pose_refusal u.counts.now u.codes.now x n ≡ pose_stored a.sizes a.codes x n
+unfolding pose_stored
+pose-in-use a u x n i = rw (i.counts, i.codes) (sym (arms-there a.sizes a.codes _ i.have))

@@ -1,5 +1,5 @@
 -- The objective and its gradients on stored goals, history, weights and tools: their numbers, and what they look at.
-use Rattle.std.specs.Prelude.{◌≡◌, refl, Bool, true, false, cond, not, ℕ, ◌+◌, ◌-◌, ◌*◌, eqb, Float, take, drop, get_or}
+use Rattle.std.specs.Prelude.{◌≡◌, refl, Bool, true, false, cond, ℕ, ◌*◌, eqb, Float, get_or}
 use Rattle.std.proofs.Math.Path.{sym, ap, subst}
 use Rattle.std.proofs.Common.{◌∙◌, arith, eqb-true}
 use mathlib.Core.List.{List}
@@ -17,11 +17,12 @@ use Rattle.gradient.specs.Gradient.{value_at, gradient_of}
 use Rattle.calls.specs.Arms.{if_taken}
 use Rattle.calls.specs.Answer.{value_if}
 use Rattle.calls.specs.AcceptedTask.{AcceptedTask, slopes_refusal, shape-task}
-use Rattle.state_calls.specs.State.{sizes_used, links_used, codes_used, floats_used, have_sheet, counts_of, counts-loaded, Stored, stored}
-use Rattle.state_calls.specs.StoredSheet.{drop-take, Used, used, links-part, codes-part, floats-part}
+use Rattle.state_calls.specs.State.{sizes_used, links_used, codes_used, floats_used, have_sheet, IsInUse, Stored, stored}
+use Rattle.state_calls.specs.StoredSheet.{drop-take}
 use Rattle.state_calls.specs.declared.state.Weights.{Weights}
 use Rattle.state_calls.specs.declared.state.Party.{Party}
-use Rattle.state_calls.specs.declared.state.Counts.{Counts}
+use Rattle.state_calls.specs.declared.state.Arms.{Arms}
+use Rattle.state_calls.specs.declared.state.InUse.{InUse}
 
 -- 20 without arms, then 21 without goals, then 22 without a reset since loading
 unfoldable pub state_number : Bool → Bool → Bool → ℕ
@@ -72,22 +73,17 @@ unfolding state_number
 state-arms true goals started e = refl
 state-arms false goals started e = absurd (omega arith)
 
-module _ (ss cs : List ℕ) (n : Counts) (e : n ≡ counts_of ss cs) (goals started : Bool) (k : ℕ) (h : k ≡ state_number n.loaded goals started) where
-  state-is : k ≡ state_number (have_sheet ss cs) goals started
-  state-is = h ∙ ap (λ (t : Bool). state_number t goals started) (ap (λ (m : Counts). m.loaded) e ∙ counts-loaded ss cs)
-
+-- a call with the state's number k and its own number m
+module _ (ss cs : List ℕ) (goals started : Bool) (k : ℕ) (h : k ≡ state_number (have_sheet ss cs) goals started) where
   -- the state refuses
   pub state-refused : (m : ℕ) → (k ≡ 0 → ⊥) → k ≡ after_state ss cs goals started m
   unfolding after_state
-  state-refused m z = sym (ap (λ (j : ℕ). first_of j m) (sym state-is) ∙ first_some k m z)
+  state-refused m z = sym (ap (λ (j : ℕ). first_of j m) (sym h) ∙ first_some k m z)
 
   -- or it has all that is asked
   pub state-passed : (m : ℕ) → k ≡ 0 → after_state ss cs goals started m ≡ m
   unfolding after_state
-  state-passed m z = first-zero _ m (sym state-is ∙ z)
-
-  pub state-used : k ≡ 0 → Used ss cs n
-  state-used z = used ss cs n e (ap not (state-arms n.loaded goals started (sym h ∙ z)))
+  state-passed m z = first-zero _ m (sym h ∙ z)
 
 -- a call that is taken has arms
 pub state-have : (ss cs : List ℕ) (goals started : Bool) (m number : ℕ) → number ≡ after_state ss cs goals started m → number ≡ 0 → have_sheet ss cs ≡ true
@@ -105,11 +101,11 @@ module _ (ss cs : List ℕ) (gs task : List Float) (a : Arrays ss cs gs task) wh
       subst (λ (ns : List ℕ). AcceptedTask ns (codes_used ss cs) task (floats_used ss gs)) (drop-take (get_or ss 0 0) ss)
       (shape-task (sizes_used ss) (codes_used ss cs) task (floats_used ss gs) a.whole q)
 
-  pub task-parts : (n : Counts) → Used ss cs n → AcceptedTask (take (n.chains + 1 - 1) (drop 1 ss)) (take n.links cs) task (take (7 * n.links) gs)
-  task-parts n u =
-      subst (λ (ns : List ℕ). AcceptedTask ns (take n.links cs) task (take (7 * n.links) gs)) (sym (links-part ss cs gs n u))
-      (subst (λ (k : List ℕ). AcceptedTask (links_used ss) k task (take (7 * n.links) gs)) (sym (codes-part ss cs gs n u))
-      (subst (λ (g : List Float). AcceptedTask (links_used ss) (codes_used ss cs) task g) (sym (floats-part ss cs gs n u)) (stored-task u.have)))
+-- so a call that is taken hands on an accepted sheet's
+pub in-use-task : (a : Arms) (u : InUse) (task : List Float) → length a.sizes ≡ 5 → length a.codes ≡ 64 → length a.floats ≡ 448 → length task ≡ task_length → IsInUse a u
+    → AcceptedTask u.counts.now u.codes.now task u.floats.now
+in-use-task a u task ls lc lg lt i =
+    rw (i.counts, i.codes, i.floats) (stored-task a.sizes a.codes a.floats task (record { sizes = ls; codes = lc; floats = lg; whole = lt }) i.have)
 
 -- ---- laws: of a call that is refused nothing is asked
 cond-under : {A : Type 0} (t : Bool) (a b c : A) → (t ≡ true → a ≡ b) → cond t a c ≡ cond t b c

@@ -1,12 +1,12 @@
 -- The caller's pick, on the state: by which list of objectives the calls answer, and that the gradients agree under either. Numbers, record and block take no pick.
-use Rattle.std.specs.Prelude.{◌≡◌, refl, Bool, true, false, List, ℕ, Float}
+use Rattle.std.specs.Prelude.{◌≡◌, refl, Bool, true, false, List, ℕ, Float, Result}
 use Rattle.geometry.specs.declared.pose.Pose.{Pose}
 use Rattle.lists.specs.Splice.{splice}
 use Rattle.task.specs.Task.{Given}
 use Rattle.self_collision.specs.Pairs.{chain_lengths}
 use Rattle.objective_master.specs.Objective.{Objective}
 use Rattle.objective_master.specs.Losses.{loss_of, objectives_of}
-use Rattle.calls.specs.declared.answer.Answer.{Answer}
+use Rattle.refusals.specs.declared.refusal.Refusal.{Refusal}
 use Rattle.calls.specs.Answer.{number_of, answer_of}
 use Rattle.calls.specs.Agree.{Answers, defined, agree}
 use Rattle.calls.specs.Strict.{source_objectives, strict_objectives, picking, value_by, slopes_by, finite_diff_by, loss-any-pick, not-picked, picked, value-by, slopes-by, finite-diff-by}
@@ -47,14 +47,14 @@ picked-answers s = answered-by _ s true (picked (given_state s true) refl)
 
 -- ---- laws: of the same state, pick and joints the gradients on two blocks and on one, where they are accepted, answer the definition, and so the same
 -- what both promise of joints x: answer r, and the slopes list, which held `before` and holds `after`
-abbrev pub GradientAnswers : State → Bool → List Float → List Float → Answer → List Float → Type 0
+abbrev pub GradientAnswers : State → Bool → List Float → List Float → Result Float Refusal → List Float → Type 0
 GradientAnswers s strict x before r after = Answers (given_state s strict) (link_floats s) x before r after
 
 module _ (s : State) (strict : Bool) (x before : List Float) where
-  pub gradient-defined : (r : Answer) (after : List Float) → GradientAnswers s strict x before r after → number_of r ≡ 0
+  pub gradient-defined : (r : Result Float Refusal) (after : List Float) → GradientAnswers s strict x before r after → number_of r ≡ 0
       → (r ≡ answer_of 0 (objective_value_of s strict x)) × (after ≡ splice before 0 (gradient_slopes_of s strict x))
   gradient-defined = defined (given_state s strict) (link_floats s) x before
 
-  pub gradients-agree : (r t : Answer) (one two : List Float) → GradientAnswers s strict x before r one → GradientAnswers s strict x before t two
+  pub gradients-agree : (r t : Result Float Refusal) (one two : List Float) → GradientAnswers s strict x before r one → GradientAnswers s strict x before t two
       → number_of r ≡ 0 → number_of t ≡ 0 → (r ≡ t) × (one ≡ two)
   gradients-agree = agree (given_state s strict) (link_floats s) x before

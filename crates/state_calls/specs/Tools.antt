@@ -18,9 +18,8 @@ use Rattle.gradient.specs.Gradient.{value_at, gradient_of, finite_diff_of}
 use Rattle.calls.specs.Tools.{NoTool, bare, lasts_of, zeros-none, take_none, ends_last, value-bare, slopes-bare}
 use Rattle.state_calls.specs.declared.state.Arms.{Arms}
 use Rattle.state_calls.specs.declared.state.State.{State}
-use Rattle.state_calls.specs.declared.state.Outcome.{Outcome}
 use Rattle.state_calls.specs.State.{links_used, tools_used, stored, empty_arms, empty_state}
-use Rattle.state_calls.specs.Load.{outcome_of, load_of}
+use Rattle.state_calls.specs.Load.{Outcome, outcome_of, load_of}
 use Rattle.state_calls.specs.StoredSheet.{tool_stored, there}
 use Rattle.state_calls.specs.Arms.{poses_of}
 use Rattle.state_calls.specs.Party.{set_goals_of, reset_state_of, update_state_of}

@@ -8,9 +8,8 @@ use Rattle.objective_master.specs.Weights.{weight_priors, none-in-force, loaded-
 use Rattle.gradient.specs.Gradient.{value_at, gradient_of, finite_diff_of}
 use Rattle.calls.specs.Weights.{built_in, priors-pass, built-in-same}
 use Rattle.state_calls.specs.declared.state.State.{State}
-use Rattle.state_calls.specs.declared.state.Outcome.{Outcome}
 use Rattle.state_calls.specs.State.{zeros, no_weights, empty_state}
-use Rattle.state_calls.specs.Load.{outcome_of, outcome-keeps, load_of}
+use Rattle.state_calls.specs.Load.{Outcome, outcome_of, outcome-keeps, load_of}
 use Rattle.state_calls.specs.Party.{set_goals_of, reset_state_of, update_state_of}
 use Rattle.state_calls.specs.StoredTask.{weights_in_force}
 use Rattle.state_calls.specs.Objective.{given_state, link_floats, objective_number_of, objective_value_of, gradient_number_of, gradient_slopes_of, finite_diff_slopes_of}

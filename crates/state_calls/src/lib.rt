@@ -6,7 +6,6 @@ pub mod objective;
 pub mod one_block_slopes;
 pub mod party;
 pub mod state;
-mod stored_sheet;
 mod stored_task;
 pub mod tool;
 pub mod weights;

@@ -1,8 +1,10 @@
 // What is kept between calls.
-ghost use Rattle.std.specs.Prelude.{◌≡◌, length};
-ghost use Rattle.state_calls.specs.State.{empty_party, empty_state, counts_of};
+ghost use Rattle.std.specs.Prelude.{◌≡◌, IfOk};
+ghost use Rattle.refusals.specs.Number.{number_of};
+ghost use Rattle.state_calls.specs.State.{empty_party, empty_state, arms_number, IsInUse};
 
 use groove::vars::History;
+use refusals::refusal::Refusal;
 use refusals::shape;
 use sheet::chain;
 
@@ -17,6 +19,7 @@ pub struct Arms {
 }
 
 // A weight for each kind of objective, and whether they are loaded; until then the built-in ones serve.
+// Kept: a flag beside what it tells of, here and in `Party`: every State is answered, also one whose flag is off and whose floats are no zeros; an Option has none such.
 #[derive(Clone, Copy)]
 pub struct Weights {
     pub loaded: bool,
@@ -40,37 +43,29 @@ pub struct State {
     pub party: Party,
 }
 
-// A call's number, 0 where it was accepted, and the state after it.
+// The part of a stored sheet that is in use.
 #[derive(Clone, Copy)]
-pub struct Outcome {
-    pub number: u16,
-    pub state: State,
-}
-
-// Whether there are arms, and how many chains and links they have.
-#[derive(Clone, Copy)]
-pub struct Counts {
-    pub loaded: bool,
-    pub chains: usize,
-    pub links: usize,
+pub struct InUse<'a> {
+    pub counts: &'a [u16],
+    pub codes: &'a [u16],
+    pub floats: &'a [f64],
 }
 
 // No goals, no start, no history.
 pub fn empty_party() -> Party
     ensures { result ≡ empty_party }
 {
-    let history = History {
-        joints: 0,
-        xopt: [0.0; 16],
-        prev_state: [0.0; 16],
-        prev_state2: [0.0; 16],
-        prev_state3: [0.0; 16],
-    };
     Party {
         has_goals: false,
         goals: [0.0; 52],
         started: false,
-        history: history,
+        history: History {
+            joints: 0,
+            xopt: [0.0; 16],
+            prev_state: [0.0; 16],
+            prev_state2: [0.0; 16],
+            prev_state3: [0.0; 16],
+        },
         start_poses: [0.0; 28],
     }
 }
@@ -79,56 +74,43 @@ pub fn empty_party() -> Party
 pub fn empty() -> State
     ensures { result ≡ empty_state }
 {
-    let arms = Arms {
-        sizes: [0; 5],
-        codes: [0; 64],
-        floats: [0.0; 448],
-        limits: [0.0; 32],
-        tools: [0.0; 32],
-    };
-    let weights = Weights {
-        loaded: false,
-        list: [0.0; 8],
-    };
     State {
-        arms: arms,
-        weights: weights,
+        arms: Arms {
+            sizes: [0; 5],
+            codes: [0; 64],
+            floats: [0.0; 448],
+            limits: [0.0; 32],
+            tools: [0.0; 32],
+        },
+        weights: Weights {
+            loaded: false,
+            list: [0.0; 8],
+        },
         party: empty_party(),
     }
 }
 
-// Whether the stored lists have lengths and codes that loading takes, and how much of them is in use.
-pub(crate) fn in_use(sizes: &[u16], codes: &[u16]) -> Counts
-    requires { (length sizes.now ≡ 5) × (length codes.now ≡ 64) }
-    ensures { result ≡ counts_of sizes.now codes.now }
+// The part of the stored lists that is in use, where they have lengths and codes that loading takes.
+pub(crate) fn in_use<'a>(arms: &'a Arms) -> Result<InUse<'a>, Refusal>
+    ensures number { number_of result ≡ arms_number arms.now.sizes arms.now.codes }
+    ensures sheet { IfOk result (IsInUse arms.now) }
 {
-    let chains = sizes[0] as usize;
+    let chains = arms.sizes[0] as usize;
     if chains > 4 {
-        return Counts {
-            loaded: false,
-            chains: 0,
-            links: 0,
-        };
+        return Err(Refusal::NoArms);
     }
-    let end = chains + 1;
-    let links = chain::total_links(&sizes[1..end]);
+    let counts = &arms.sizes[1..chains + 1];
+    let links = chain::total_links(counts);
     if links > 64 {
-        return Counts {
-            loaded: false,
-            chains: 0,
-            links: 0,
-        };
+        return Err(Refusal::NoArms);
     }
-    if shape::shape_refusal(&sizes[..end], &codes[..links], 7 * links) != 0 {
-        return Counts {
-            loaded: false,
-            chains: 0,
-            links: 0,
-        };
-    }
-    Counts {
-        loaded: true,
-        chains: chains,
-        links: links,
-    }
+    let codes = &arms.codes[..links];
+    let Ok(()) = shape::shape_refusal(&arms.sizes[..chains + 1], codes, 7 * links) else {
+        return Err(Refusal::NoArms);
+    };
+    Ok(InUse {
+        counts,
+        codes,
+        floats: &arms.floats[..7 * links],
+    })
 }

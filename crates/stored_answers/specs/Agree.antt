@@ -1,9 +1,10 @@
 -- When an answer agrees with the stored one: the number is the same, and so is every output, byte for byte. The stored list has one pattern for every NaN, and so
 -- has what the proved code writes: a NaN matches a NaN.
-use Rattle.std.specs.Prelude.{◌≡◌, refl, Bool, true, false, cond, List, [], ◌∷◌, ◌++◌, ℕ, zero, suc, ◌+◌, ◌≤◌, eqb, length, take, replicate}
-use Rattle.std.proofs.Common.{sym, ap, ◌∙◌, arith, eq-eqb, eqb-true}
+use Rattle.std.specs.Prelude.{◌≡◌, refl, Bool, true, false, cond, List, [], ◌∷◌, ◌++◌, ℕ, zero, suc, ◌+◌, ◌≤◌, eqb, length, take, replicate, bytes_eq}
+use Rattle.std.proofs.Common.{sym, ap, ◌∙◌, arith, eq-eqb, ne_eqb, eqb-true}
 use Rattle.std.proofs.lemmas.Bool.{false≢true}
 use Rattle.std.proofs.lemmas.List.{length-replicate}
+use Rattle.std.proofs.lemmas.Slice.Eq.{bytes_eq-Decides}
 use Rattle.lists.specs.Splice.{splice}
 use Rattle.calls.specs.Arms.{if_taken}
 use Rattle.lent_bytes.specs.SheetLists.{same-two, same-three}
@@ -83,8 +84,17 @@ not_same : (t : Bool) → (t ≡ true → ⊥) → t ≡ false
 not_same true h = absurd (h refl)
 not_same false h = refl
 
+agree_if : (t u : Bool) → (t ≡ true → u ≡ true) → (u ≡ true → t ≡ true) → t ≡ u
+agree_if true u f g = sym (f refl)
+agree_if false true f g = g refl
+agree_if false false f g = refl
+
 pub same_false : (xs ys : List ℕ) → (xs ≡ ys → ⊥) → same_bytes xs ys ≡ false
 same_false xs ys h = not_same (same_bytes xs ys) (λ e. h (same_true xs ys e))
+
+-- so they are the test that `==` makes of two lists
+pub same-eq : (xs ys : List ℕ) → bytes_eq xs ys ≡ same_bytes xs ys
+same-eq xs ys = agree_if (bytes_eq xs ys) (same_bytes xs ys) (λ e. rw ((bytes_eq-Decides xs ys).0 e) (same_refl ys)) (λ e. (bytes_eq-Decides xs ys).1 (same_true xs ys e))
 
 -- one output more
 itself : (t : Bool) → cond t true false ≡ t
@@ -133,3 +143,25 @@ pub agrees_on : (s : List ℕ) (at r k : ℕ) (os : List (List ℕ)) {b t : Bool
     → b ≡ answer_agrees s at r k os → o ≡ o' → t ≡ cond b (same_bytes o (list_of s at (k + length os))) false → t ≡ answer_agrees s at r k (os ++ (o' ∷ []))
 agrees_on s at r k os {o' = o'} e q h =
     h ∙ same-two (λ b o. cond b (same_bytes o (list_of s at (k + length os))) false) e q ∙ sym (agrees-more s at r k os o')
+
+-- the outputs one after the other: where the next one differs, all do; where it is the same, those behind it decide
+module _ (s : List ℕ) (at k : ℕ) (o : List ℕ) (os : List (List ℕ)) where
+  pub outputs-not : same_bytes o (list_of s at k) ≡ false → outputs_agree s at k (o ∷ os) ≡ false
+  unfolding outputs_agree
+  outputs-not e = rw e
+
+  pub outputs-next : same_bytes o (list_of s at k) ≡ true → outputs_agree s at k (o ∷ os) ≡ outputs_agree s at (k + 1) os
+  unfolding outputs_agree
+  outputs-next e = rw e
+
+pub outputs-none : (s : List ℕ) (at k : ℕ) → outputs_agree s at k [] ≡ true
+unfolding outputs_agree
+outputs-none s at k = refl
+
+pub answer-not : (s : List ℕ) (at r k : ℕ) (os : List (List ℕ)) → (r ≡ number_at s (at + 2) → ⊥) → answer_agrees s at r k os ≡ false
+unfolding answer_agrees
+answer-not s at r k os h = rw (ne_eqb r (number_at s (at + 2)) h)
+
+pub answer-number : (s : List ℕ) (at r k : ℕ) (os : List (List ℕ)) → r ≡ number_at s (at + 2) → answer_agrees s at r k os ≡ outputs_agree s at k os
+unfolding answer_agrees
+answer-number s at r k os e = rw (eq-eqb r (number_at s (at + 2)) e)

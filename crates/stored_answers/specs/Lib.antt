@@ -2,3 +2,4 @@ pub mod Stored
 pub mod Same
 pub mod Agree
 pub mod Records
+pub mod Damage

@@ -7,7 +7,9 @@ use Prim.Native.Nat.{ℕ, zero, suc, ◌+◌, ◌-◌, ◌≤◌, ◌<◌}
 use Rattle.std.proofs.Math.Nat.{zero-add, suc-add}
 use Rattle.std.proofs.Math.Numerals.{add-one}
 use native.Mathlib.Omega.{arith}
-use Rattle.refusals.specs.Lowest.{first_of, first_some}
+use borrow.Author.Tests.{lt-ltb}
+use Rattle.lent_bytes.specs.SheetLists.{same-two, same-three}
+use Rattle.refusals.specs.Lowest.{first_of, first_some, first-zero}
 use Rattle.stored_answers.specs.Stored.{number_at, place_of}
 
 -- where the record at a place ends
@@ -41,6 +43,15 @@ cases_by lists s c = sum_of (λ i. is_case s c (record_by lists s i)) (records_i
 unfoldable pub differ_by : (ℕ → ℕ) → (ℕ → Bool) → List ℕ → ℕ → ℕ
 differ_by lists agrees s c = sum_of (λ i. is_different (agrees i) s c (record_by lists s i)) (records_in s)
 
+-- Calls that are made one after the other on a state: `after` says what a record's call makes of it, and `agrees` whether the record has what its call answers.
+-- The state before record i, and whether that record agrees:
+unfoldable pub state_by : {S : Type 0} → (S → List ℕ → ℕ → S) → S → (ℕ → ℕ) → List ℕ → ℕ → S
+state_by after begun lists s zero = begun
+state_by after begun lists s (suc i) = after (state_by after begun lists s i) s (record_by lists s i)
+
+abbrev pub agrees_by : {S : Type 0} → (S → List ℕ → ℕ → Bool) → (S → List ℕ → ℕ → S) → S → (ℕ → ℕ) → List ℕ → ℕ → Bool
+agrees_by agrees after begun lists s i = agrees (state_by after begun lists s i) s (record_by lists s i)
+
 -- What is wrong with a list of calls up to `most`: 1, it is cut short; 2, a record is of no known call; 3, something stands behind the last record; 0, nothing.
 -- The record at a place:
 unfoldable pub damage_at : (ℕ → ℕ) → ℕ → List ℕ → ℕ → ℕ
@@ -58,6 +69,11 @@ damage_by lists most s = first_of (damage_to lists most s (records_in s)) (cond 
 pub record-next : (lists : ℕ → ℕ) (s : List ℕ) (i : ℕ) → record_by lists s (i + 1) ≡ end_by lists s (record_by lists s i)
 unfolding record_by
 record-next lists s i = rw add-one
+
+pub state-next : {S : Type 0} (after : S → List ℕ → ℕ → S) (begun : S) (lists : ℕ → ℕ) (s : List ℕ) (i : ℕ)
+    → state_by after begun lists s (i + 1) ≡ after (state_by after begun lists s i) s (record_by lists s i)
+unfolding state_by
+state-next after begun lists s i = rw add-one
 
 module _ (s : List ℕ) (c at : ℕ) where
   pub case-none : (number_at s at ≡ c → ⊥) → is_case s c at ≡ 0
@@ -128,3 +144,43 @@ module _ (lists : ℕ → ℕ) (most : ℕ) (s : List ℕ) where
       let q : k + i ≡ records_in s = omega arith in
       let e = ap (damage_to lists most s) (sym q) ∙ stays i k d in
       first_some _ _ (λ z. d (sym e ∙ z)) ∙ e
+
+  -- a list record by record: where i of them are whole, the next one decides
+  pub damage-next : (i at : ℕ) {d : ℕ} → at ≡ record_by lists s i → damage_to lists most s i ≡ 0 → d ≡ damage_at lists most s at → damage_to lists most s (i + 1) ≡ d
+  damage-next i at e z h = damage-more i ∙ first-zero _ _ z ∙ ap (damage_at lists most s) (sym e) ∙ sym h
+
+  pub damage-short : length s < 2 → 1 ≡ damage_by lists most s
+  unfolding damage_to
+  damage-short h =
+      let z : damage_to lists most s 0 ≡ 1 = rw (lt-ltb (length s) 2 h) in
+      sym (damage-found 0 (omega arith) (λ e. omega (arith, z, e)) ∙ z)
+
+  pub damage-first : (i : ℕ) {d : ℕ} → i < records_in s → damage_to lists most s (i + 1) ≡ d → (d ≡ 0 → ⊥) → d ≡ damage_by lists most s
+  damage-first i h e n = sym (damage-found (i + 1) (omega arith) (λ z. n (sym e ∙ z)) ∙ e)
+
+  module _ (i at : ℕ) (q : i ≡ records_in s) (e : at ≡ record_by lists s i) (z : damage_to lists most s i ≡ 0) where
+    pub damage-behind : (at ≡ length s → ⊥) → 3 ≡ damage_by lists most s
+    unfolding damage_by
+    damage-behind h = sym (first-zero _ _ (ap (damage_to lists most s) (sym q) ∙ z) ∙ rw (ne_eqb (record_by lists s (records_in s)) (length s) (λ p. h (e ∙ ap (record_by lists s) q ∙ p))))
+
+    pub damage-none : at ≡ length s → 0 ≡ damage_by lists most s
+    unfolding damage_by
+    damage-none h = sym (first-zero _ _ (ap (damage_to lists most s) (sym q) ∙ z) ∙ rw (eq-eqb (record_by lists s (records_in s)) (length s) (sym (e ∙ ap (record_by lists s) q) ∙ h)))
+
+-- a tally record by record: what one record adds
+module _ (lists : ℕ → ℕ) (s : List ℕ) (i at : ℕ) (e : at ≡ record_by lists s i) where
+  pub place-next : {end : ℕ} → end ≡ end_by lists s at → end ≡ record_by lists s (i + 1)
+  place-next h = h ∙ ap (end_by lists s) e ∙ sym (record-next lists s i)
+
+  pub cases-next : (c : ℕ) {n m : ℕ} → n ≡ sum_of (λ k. is_case s c (record_by lists s k)) i → m ≡ n + is_case s c at → m ≡ sum_of (λ k. is_case s c (record_by lists s k)) (i + 1)
+  cases-next c p h = h ∙ same-two (λ n at. n + is_case s c at) p e ∙ sym (sum_more (λ k. is_case s c (record_by lists s k)) i)
+
+  module _ {S : Type 0} (agrees : S → List ℕ → ℕ → Bool) (after : S → List ℕ → ℕ → S) (begun : S) {state : S} (q : state ≡ state_by after begun lists s i) where
+    pub after-next : {next : S} → next ≡ after state s at → next ≡ state_by after begun lists s (i + 1)
+    after-next h = h ∙ same-two (λ state at. after state s at) q e ∙ sym (state-next after begun lists s i)
+
+    pub differ-next : (c : ℕ) {n m : ℕ} → n ≡ sum_of (λ k. is_different (agrees_by agrees after begun lists s k) s c (record_by lists s k)) i → m ≡ n + is_different (agrees state s at) s c at
+        → m ≡ sum_of (λ k. is_different (agrees_by agrees after begun lists s k) s c (record_by lists s k)) (i + 1)
+    differ-next c p h =
+        h ∙ same-three (λ n state at. n + is_different (agrees state s at) s c at) p q e
+        ∙ sym (sum_more (λ k. is_different (agrees_by agrees after begun lists s k) s c (record_by lists s k)) i)

@@ -27,25 +27,46 @@ fn part(s: &[u8], from: usize, n: usize) -> &[u8]
     &s[from..to]
 }
 
-// Where list k of the record at `at` begins.
-pub fn place(s: &[u8], at: usize, k: usize) -> usize
-    requires { (at ≤ 2 ^ 40) × (k ≤ 20) }
-    ensures { (result ≡ place_of s.now at k) × (result ≤ at + 4 + 65537 * k) }
-{
-    let mut p = at + 4;
-    let mut i: usize = 0;
-    while i < k {
-        p = p + 2 + number_at(s, p);
-        i += 1;
-    }
-    p
+// The record of the list `s` that begins at `at`.
+#[derive(Clone, Copy)]
+pub struct Record<'a> {
+    pub s: &'a [u8],
+    pub at: usize,
+    ghost near: { at ≤ 2 ^ 40 },
 }
 
-// The bytes of list k of the record at `at`.
-pub fn list(s: &[u8], at: usize, k: usize) -> &[u8]
-    requires { (at ≤ 2 ^ 40) × (k ≤ 20) }
-    ensures { (result.now ≡ list_of s.now at k) × (length result.now < 65536) }
-{
-    let p = place(s, at, k);
-    part(s, p + 2, number_at(s, p))
+impl<'a> Record<'a> {
+    pub fn call(self) -> usize
+        ensures { (result ≡ number_at self.entry.s.now self.entry.at) × (result < 65536) }
+    {
+        number_at(self.s, self.at)
+    }
+
+    // The number that the call answered.
+    pub fn number(self) -> usize
+        ensures { (result ≡ number_at self.entry.s.now (self.entry.at + 2)) × (result < 65536) }
+    {
+        number_at(self.s, self.at + 2)
+    }
+
+    // Where list k begins.
+    pub fn place(self, k: usize) -> usize
+        requires { k ≤ 20 }
+        ensures { (result ≡ place_of self.entry.s.now self.entry.at k) × (result ≤ self.entry.at + 4 + 65537 * k) }
+    {
+        let mut p = self.at + 4;
+        for i in 0..k {
+            p = p + 2 + number_at(self.s, p);
+        }
+        p
+    }
+
+    // The bytes of list k.
+    pub fn list(self, k: usize) -> &'a [u8]
+        requires { k ≤ 20 }
+        ensures { (result.now ≡ list_of self.entry.s.now self.entry.at k) × (length result.now < 65536) }
+    {
+        let p = self.place(k);
+        part(self.s, p + 2, number_at(self.s, p))
+    }
 }

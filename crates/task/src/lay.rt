@@ -11,7 +11,7 @@ pub fn put(src: &[f64], at: usize, task: &mut [f64])
     requires { at + length src.now ≤ length task.old }
     ensures { task.new ≡ splice task.old at src.now }
 {
-    lists::copy_floats(src, &mut task[at..]);
+    lists::copy(src, &mut task[at..]);
 }
 
 // The joint blocks.

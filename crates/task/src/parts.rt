@@ -31,6 +31,7 @@ pub fn goals(task: &[f64], chains: usize) -> &[f64]
     part(task, 40, 13 * chains)
 }
 
+// Kept: three functions of one shape, since the blocks of the history go by the names that they have in the source.
 pub fn xopt(task: &[f64], joints: usize) -> &[f64]
     requires { (length task.now ≡ task_length) × (joints ≤ 16) }
     ensures { (result.now ≡ xopt_of joints task.now) × (length result.now ≡ joints) }

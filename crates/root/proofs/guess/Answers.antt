@@ -5,8 +5,5 @@ use native.Mathlib.Omega.{arith}
 use Rattle.root.proofs.Patterns.{no-nan-bits}
 use Rattle.root.proofs.guess.Goals as goal
 
-pub overflow_add-u-2 : goal.overflow_add-u-2
-overflow_add-u-2 c = let d = div-le_self c.args.a (2 ^ (c.args.a / 9007199254740992)) in omega arith
-
 pub float_from_bits-u : goal.float_from_bits-u
 float_from_bits-u c = let d = div-le_self c.args.a (2 ^ (c.args.a / 9007199254740992)) in no-nan-bits _ (omega arith)

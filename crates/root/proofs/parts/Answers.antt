@@ -13,17 +13,8 @@ low_field b p e = moved (b % 4503599627370496) (omega arith) (omega arith)
 some : (e : ℕ) → (e ≡ 0 → ⊥) → e ≡ suc (e - 1)
 some e h = omega arith
 
-pub overflow_cast-z : goal.overflow_cast-z
-overflow_cast-z c = let m = low_field c.args.b c.requires.0 c.if-e-eq0.true in omega arith
-
 pub overflow_sub-z : goal.overflow_sub-z
 overflow_sub-z c = let m = low_field c.args.b c.requires.0 c.if-e-eq0.true in omega arith
-
-pub overflow_shl-t : goal.overflow_shl-t
-overflow_shl-t c = let m = low_field c.args.b c.requires.0 c.if-e-eq0.true in omega arith
-
-pub overflow_sub-z-then-e-eq0 : goal.overflow_sub-z-then-e-eq0
-overflow_sub-z-then-e-eq0 c = let m = low_field c.args.b c.requires.0 c.if-e-eq0.true in m.few
 
 pub even-requires : goal.even-requires
 even-requires c =

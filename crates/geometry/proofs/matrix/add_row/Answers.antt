@@ -1,11 +1,8 @@
 use Prim.Native.Nat.{◌<◌}
 use native.Mathlib.Omega.{arith}
 use Rattle.geometry.specs.Matrix.{added_of}
-use Rattle.geometry.proofs.Tables.{rewritten-start, rewritten-all, row-turn}
+use Rattle.geometry.proofs.Tables.{rewritten-all, row-turn}
 use Rattle.geometry.proofs.matrix.add_row.Goals as goal
-
-pub loop-s-init : goal.loop-s-init
-loop-s-init c = rewritten-start (omega arith)
 
 pub loop-s-preserved : goal.loop-s-preserved
 unfolding added_of

@@ -1,12 +1,8 @@
 -- `determinant` meets its contract. The loop keeps that the steps that are left give the determinant of the matrix that came.
 use mathlib.Core.Path.{◌≡◌}
 use Prim.Native.Nat.{◌-◌, ◌≤◌}
-use lib.ListN.{length}
 use Rattle.geometry.specs.Matrix.{determinant_of, steps_of}
 use Rattle.geometry.proofs.matrix.determinant.Given as goal
 
 abbrev pub invariant-loop-k : goal.invariant-loop-k
-invariant-loop-k l = (l.k ≤ 6) × (l.swaps ≤ l.k) × (length l.a ≡ 36) × (steps_of l.a l.swaps l.k (6 - l.k) ≡ determinant_of l.initial.a)
-
-abbrev pub decreases-loop-k : goal.decreases-loop-k
-decreases-loop-k l = 6 - l.k
+invariant-loop-k l = (l.swaps ≤ l.k) × (steps_of l.a l.swaps l.k (6 - l.k) ≡ determinant_of l.initial.a)

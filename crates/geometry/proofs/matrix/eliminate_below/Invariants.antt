@@ -1,11 +1,7 @@
 -- `eliminate_below` meets its contract. The rows from `k + 1` to before `i` have lost.
-use Prim.Native.Nat.{◌-◌, ◌<◌}
 use Rattle.geometry.proofs.Tables.{Rewritten, by_row}
 use Rattle.geometry.proofs.Steps.{lost}
 use Rattle.geometry.proofs.matrix.eliminate_below.Given as goal
 
 abbrev pub invariant-loop-i : goal.invariant-loop-i
-invariant-loop-i l = (l.k < l.i) × Rewritten by_row (lost l.initial.m l.k) l.initial.m l.i l.m
-
-abbrev pub decreases-loop-i : goal.decreases-loop-i
-decreases-loop-i l = 6 - l.i
+invariant-loop-i l = Rewritten by_row (lost l.initial.m l.k) l.initial.m l.i l.m

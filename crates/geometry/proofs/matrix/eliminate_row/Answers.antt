@@ -1,11 +1,8 @@
 use Prim.Native.Nat.{◌<◌}
 use native.Mathlib.Omega.{arith}
 use Rattle.geometry.specs.Matrix.{eliminated_of}
-use Rattle.geometry.proofs.Tables.{rewritten-start, rewritten-all, row-turn}
+use Rattle.geometry.proofs.Tables.{rewritten-all, row-turn}
 use Rattle.geometry.proofs.matrix.eliminate_row.Goals as goal
-
-pub loop-c-init : goal.loop-c-init
-loop-c-init c = rewritten-start (omega arith)
 
 pub loop-c-preserved : goal.loop-c-preserved
 unfolding eliminated_of

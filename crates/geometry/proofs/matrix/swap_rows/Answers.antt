@@ -1,11 +1,8 @@
 use native.Mathlib.Omega.{arith}
 use Rattle.geometry.specs.Matrix.{swap_of}
-use Rattle.geometry.proofs.Tables.{rewritten-start, rewritten-all}
+use Rattle.geometry.proofs.Tables.{rewritten-all}
 use Rattle.geometry.proofs.Steps.{swap-turn}
 use Rattle.geometry.proofs.matrix.swap_rows.Goals as goal
-
-pub loop-c-init : goal.loop-c-init
-loop-c-init c = rewritten-start (omega arith)
 
 pub loop-c-preserved : goal.loop-c-preserved
 loop-c-preserved c =

@@ -8,23 +8,8 @@ use Rattle.lists.specs.Splice.{splice}
 use Rattle.task.specs.Task.{Given, given_of}
 use Rattle.gradient.specs.Slopes.{step_of, slope_by}
 use Rattle.gradient.specs.Gradient.{losses_at, raised_by}
-use Rattle.gradient.specs.Ready.{ready-other}
-use Rattle.gradient.specs.Made.{raised-length, put_back, losses-front, as_many, slope-made}
+use Rattle.gradient.specs.Made.{put_back, losses-front, as_many, slope-made}
 use Rattle.gradient.proofs.gradient.slope.Goals as goal
-
-pub losses_of-requires : goal.losses_of-requires
-unfolding raised_by
-losses_of-requires c =
-    let a = c.args in
-    let ns = a.counts.now in
-    let cs = a.codes.now in
-    let T = a.task.now in
-    let gs = a.floats.now in
-    let x = a.scratch.now in
-    let h = c.step.result in record {
-      ready = ready-other ns cs T gs x (raised_by h x a.asked.joint) (raised-length h x a.asked.joint) c.requires.ready.0;
-      codes_in_bounds = (c.requires.known.poses, omega (arith, ap length c.requires.known.kinds, c.requires.known.again));
-    }
 
 pub returns : goal.returns
 unfolding raised_by given_of

@@ -1,23 +1,11 @@
 -- `value_of` meets its contract: the losses, then their weighted sum.
 use mathlib.Core.Path.{ap, ◌∙◌}
 use mathlib.Core.List.{List}
-use native.Mathlib.Omega.{arith}
 use lib.Ieee.{Float}
-use lib.ListN.{length}
 use Rattle.task.specs.Task.{given_of}
 use Rattle.objective_master.specs.Weights.{weighted_by}
 use Rattle.gradient.specs.Made.{value_made}
 use Rattle.gradient.proofs.value.value_of.Goals as goal
-
-pub losses_of-requires : goal.losses_of-requires
-losses_of-requires c =
-    record {
-      ready = c.requires.ready.0;
-      codes_in_bounds = (c.requires.codes_in_bounds.0, omega (arith, ap length c.requires.ready.1, c.requires.codes_in_bounds.1));
-    }
-
-pub weighted_sum-requires : goal.weighted_sum-requires
-weighted_sum-requires c = omega (arith, c.requires.codes_in_bounds.1, c.losses_of.auto.poses)
 
 pub returns : goal.returns
 unfolding given_of

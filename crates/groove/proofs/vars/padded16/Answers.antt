@@ -4,4 +4,4 @@ use Rattle.groove.proofs.vars.padded16.Goals as goal
 -- src/vars.rt:16:1
 pub returns : goal.returns
 unfolding padded
-returns c = c.copy_floats.ensures
+returns c = c.copy.ensures

@@ -6,7 +6,7 @@ use Rattle.lent_bytes.specs.ToolLists.{seven-read, not-seven}
 use Rattle.lent_bytes.proofs.tool_lists.seven.Goals as goal
 
 pub returns-then-n-eq7 : goal.returns-then-n-eq7
-returns-then-n-eq7 c = seven-read c.args.b.now c.floats-n.new.out c.floats-n.result c.floats-n.ensures c.floats-n.auto.out c.if-n-eq7.true
+returns-then-n-eq7 c = seven-read c.args.b.now c.decode-n.new.out c.decode-n.result c.decode-n.ensures c.decode-n.auto.out c.if-n-eq7.true
 
 pub returns : goal.returns
-returns c = ap (replicate 7) nought-over-nought ∙ not-seven c.args.b.now c.floats-n.new.out c.floats-n.result c.floats-n.ensures c.if-n-eq7.false
+returns c = ap (replicate 7) nought-over-nought ∙ not-seven c.args.b.now c.decode-n.new.out c.decode-n.result c.decode-n.ensures c.if-n-eq7.false

@@ -1,6 +1,7 @@
 -- `get_manipulability_immutable` meets its contract: the Jacobian is the front of the array.
-use mathlib.Core.Path.{◌≡◌, sym, ap, ◌∙◌}
-use Prim.Native.Nat.{◌-◌, ◌*◌, ◌≤◌, ◌<◌}
+use mathlib.Core.Path.{◌≡◌, ap, ◌∙◌}
+use mathlib.Core.List.{List}
+use Prim.Native.Nat.{ℕ, ◌-◌, ◌*◌, ◌≤◌, ◌<◌}
 use native.Mathlib.Omega.{arith}
 use lib.ListN.{length, length-take, length-append}
 use lib.Seq.{take_at}
@@ -8,63 +9,54 @@ use borrow.Author.Tests.{lt-ltb, le-ltb}
 use Rattle.root.specs.Root.{root_of}
 use Rattle.standins.specs.Cut.{cut_of}
 use Rattle.geometry.specs.Matrix.{gram_of, determinant_of}
-use Rattle.sheet.specs.Chain.{joint-mono, joints_in}
-use Rattle.manipulability.specs.Jacobian.{joint-order, manipulability_in}
+use Rattle.sheet.specs.Chain.{joint_of, joint-mono, joints_in}
+use Rattle.manipulability.specs.Jacobian.{Part, joint-order, manipulability_in}
 use Rattle.manipulability.proofs.jacobian.get_manipulability_immutable.Goals as goal
 
+-- the joints as the code counts them, and room for their columns
+counted : (cs : List ℕ) (f e m n : ℕ) → Part cs f e → m ≡ joint_of cs e → n ≡ joint_of cs f → (m - n ≡ joints_in cs f e) × (6 * (m - n) ≤ 96)
+counted cs f e m n p a b = (omega arith, omega (arith, p.few))
+
 pub overflow_sub-n : goal.overflow_sub-n
-overflow_sub-n c = omega (arith, c.joint_number-2.ensures, c.joint_number.ensures, joint-mono c.args.codes.now c.args.first c.args.end c.requires.part.order)
+overflow_sub-n c = omega (arith, joint-mono c.args.codes.now c.args.first c.args.end c.requires.part.order)
 
 pub returns-then-n-lt6 : goal.returns-then-n-lt6
 unfolding manipulability_in
 returns-then-n-lt6 c =
-    let counted : c.joint_number.result - c.joint_number-2.result ≡ joints_in c.args.codes.now c.args.first c.args.end = omega (arith, c.joint_number-2.ensures, c.joint_number.ensures) in
-    let h : joints_in c.args.codes.now c.args.first c.args.end < 6 = omega (arith, counted, c.if-n-lt6.true) in rw (lt-ltb _ 6 h)
-
-pub slice_bounds-a-end : goal.slice_bounds-a-end
-slice_bounds-a-end c =
-    let counted : c.joint_number.result - c.joint_number-2.result ≡ joints_in c.args.codes.now c.args.first c.args.end = omega (arith, c.joint_number-2.ensures, c.joint_number.ensures) in
-    let fits : 6 * (c.joint_number.result - c.joint_number-2.result) ≤ 96 = omega (arith, counted, c.requires.part.few) in
-    omega (arith, fits)
+    let h : joints_in c.args.codes.now c.args.first c.args.end < 6 = omega (arith, counted _ _ _ _ _ c.requires.part c.joint_number.ensures c.joint_number-2.ensures, c.if-n-lt6.true) in rw (lt-ltb _ 6 h)
 
 pub slice_bounds-get_jacobian_immutable-end : goal.slice_bounds-get_jacobian_immutable-end
 slice_bounds-get_jacobian_immutable-end c =
-    let counted : c.joint_number.result - c.joint_number-2.result ≡ joints_in c.args.codes.now c.args.first c.args.end = omega (arith, c.joint_number-2.ensures, c.joint_number.ensures) in
-    let fits : 6 * (c.joint_number.result - c.joint_number-2.result) ≤ 96 = omega (arith, counted, c.requires.part.few) in
-    simp length-take (omega (arith, c.room-a.ensures, fits))
+    simp length-take (omega (arith, counted _ _ _ _ _ c.requires.part c.joint_number.ensures c.joint_number-2.ensures))
 
 pub get_jacobian_immutable-requires : goal.get_jacobian_immutable-requires
 get_jacobian_immutable-requires c =
-    let counted : c.joint_number.result - c.joint_number-2.result ≡ joints_in c.args.codes.now c.args.first c.args.end = omega (arith, c.joint_number-2.ensures, c.joint_number.ensures) in
-    let fits : 6 * (c.joint_number.result - c.joint_number-2.result) ≤ 96 = omega (arith, counted, c.requires.part.few) in
-    let k = fits in
-    let ordered : c.args.first < c.args.end = joint-order c.args.codes.now c.args.first c.args.end (omega (arith, counted, c.if-n-lt6.false)) in record {
-      part = (c.requires.part, ordered);
+    let all = counted _ _ _ _ _ c.requires.part c.joint_number.ensures c.joint_number-2.ensures in
+    let many = all.0 in
+    let fits = all.1 in record {
+      part = (c.requires.part, joint-order c.args.codes.now c.args.first c.args.end (omega (arith, many, c.if-n-lt6.false)));
       view = c.requires.view;
-      j_len = simp length-take (omega (arith, c.room-a.ensures, counted, k));
+      j_len = simp length-take (omega (arith, many, fits));
     }
 
 pub slice_bounds-a-end-2 : goal.slice_bounds-a-end-2
 slice_bounds-a-end-2 c =
-    let counted : c.joint_number.result - c.joint_number-2.result ≡ joints_in c.args.codes.now c.args.first c.args.end = omega (arith, c.joint_number-2.ensures, c.joint_number.ensures) in
-    let fits : 6 * (c.joint_number.result - c.joint_number-2.result) ≤ 96 = omega (arith, counted, c.requires.part.few) in
-    let front : length c.get_jacobian_immutable.new.j ≡ 6 * (c.joint_number.result - c.joint_number-2.result) = let k = fits in c.get_jacobian_immutable.auto.j ∙ simp length-take (omega (arith, c.room-a.ensures)) in
-    simp length-append (omega (arith, front))
+    let fits = (counted _ _ _ _ _ c.requires.part c.joint_number.ensures c.joint_number-2.ensures).1 in
+    simp (length-append, c.get_jacobian_immutable.auto.j, length-take) (omega (arith, fits))
 
 pub slice_bounds-gram-end : goal.slice_bounds-gram-end
 slice_bounds-gram-end c =
-    let counted : c.joint_number.result - c.joint_number-2.result ≡ joints_in c.args.codes.now c.args.first c.args.end = omega (arith, c.joint_number-2.ensures, c.joint_number.ensures) in
-    let fits : 6 * (c.joint_number.result - c.joint_number-2.result) ≤ 96 = omega (arith, counted, c.requires.part.few) in
-    let front : length c.get_jacobian_immutable.new.j ≡ 6 * (c.joint_number.result - c.joint_number-2.result) = let k = fits in c.get_jacobian_immutable.auto.j ∙ simp length-take (omega (arith, c.room-a.ensures)) in
-    sym (ap length (take_at c.get_jacobian_immutable.new.j _ _ (front)) ∙ front)
+    let fits = (counted _ _ _ _ _ c.requires.part c.joint_number.ensures c.joint_number-2.ensures).1 in
+    simp (length-take, length-append, c.get_jacobian_immutable.auto.j) (omega (arith, fits))
 
 pub returns : goal.returns
 unfolding manipulability_in
 returns c =
-    let counted : c.joint_number.result - c.joint_number-2.result ≡ joints_in c.args.codes.now c.args.first c.args.end = omega (arith, c.joint_number-2.ensures, c.joint_number.ensures) in
-    let fits : 6 * (c.joint_number.result - c.joint_number-2.result) ≤ 96 = omega (arith, counted, c.requires.part.few) in
-    let front : length c.get_jacobian_immutable.new.j ≡ 6 * (c.joint_number.result - c.joint_number-2.result) = let k = fits in c.get_jacobian_immutable.auto.j ∙ simp length-take (omega (arith, c.room-a.ensures)) in
-    let h : 6 ≤ joints_in c.args.codes.now c.args.first c.args.end = omega (arith, counted, c.if-n-lt6.false) in
+    let all = counted _ _ _ _ _ c.requires.part c.joint_number.ensures c.joint_number-2.ensures in
+    let many = all.0 in
+    let fits = all.1 in
+    let front : length c.get_jacobian_immutable.new.j ≡ 6 * (c.joint_number.result - c.joint_number-2.result) = c.get_jacobian_immutable.auto.j ∙ simp length-take (omega (arith, fits)) in
+    let h : 6 ≤ joints_in c.args.codes.now c.args.first c.args.end = omega (arith, many, c.if-n-lt6.false) in
     rw (le-ltb _ 6 h)
     (c.sqrt.ensures.same ∙ ap root_of (c.cut.ensures ∙ ap cut_of (c.determinant-d.ensures ∙ ap determinant_of (c.gram.ensures
-    ∙ ap gram_of (take_at c.get_jacobian_immutable.new.j _ _ (front) ∙ c.get_jacobian_immutable.ensures)))))
+    ∙ ap gram_of (take_at c.get_jacobian_immutable.new.j _ _ front ∙ c.get_jacobian_immutable.ensures)))))

@@ -1,35 +1,42 @@
 use mathlib.Core.Path.{◌≡◌, refl, sym, ap, ◌∙◌}
-use Prim.Native.Nat.{◌+◌}
+use Prim.Native.Nat.{◌+◌, ◌-◌}
 use native.Mathlib.Omega.{arith}
-use lib.ListN.{length, get_or}
+use lib.ListN.{length}
 use Rattle.lists.specs.Splice.{splice, splice-nil, length-splice}
-use Rattle.sheet.specs.Chain.{joints_of}
 use Rattle.manipulability.specs.Jacobian.{axis_piece, piece-length, axes-none, axes-count, axes-turn, axes-room, axes-front}
 use Rattle.manipulability.proofs.jacobian.joint_axes.Goals as goal
 
-pub loop-i-init : goal.loop-i-init
-loop-i-init c = (omega arith, sym (ap length (axes-none _ _)), refl, sym (ap (splice _ 0) (axes-none _ _) ∙ splice-nil _ 0))
+pub loop-link-init : goal.loop-link-init
+loop-link-init c =
+    let z : c.args.first - c.args.first ≡ 0 = omega arith in
+    rw z (omega arith, sym (ap length (axes-none _ _)), refl, sym (ap (splice _ 0) (axes-none _ _) ∙ splice-nil _ 0))
 
 pub put_axis-joint-requires : goal.put_axis-joint-requires
 put_axis-joint-requires c =
     let a = c.args in
-    (omega arith, omega (arith, c.loop-i.invariant.1, axes-room a.codes.now a.first a.end c.loop-i.i c.requires (omega arith)), c.loop-i.invariant.2)
+    let i = c.loop-link.link - a.first in
+    let z : a.first + i ≡ c.loop-link.link = omega arith in
+    let room = rw z at (axes-room a.codes.now a.first a.end i c.requires (omega arith)) in
+    (omega arith, omega (arith, c.loop-link.invariant.1, room), c.loop-link.invariant.2)
 
-pub loop-i-preserved : goal.loop-i-preserved
-loop-i-preserved c =
-    let cs = c.args.codes.now in
-    let f = c.args.first in
-    let i = c.loop-i.i in
-    let r = axes-room cs f c.args.end i c.requires (omega arith) in
-    let n : length (axis_piece cs (f + i)) ≡ joints_of (get_or cs (f + i) 0) = piece-length cs (f + i) in (
+pub loop-link-preserved : goal.loop-link-preserved
+loop-link-preserved c =
+    let a = c.args in
+    let cs = a.codes.now in
+    let f = a.first in
+    let i = c.loop-link.link - f in
+    let z : f + i ≡ c.loop-link.link = omega arith in
+    let more : c.loop-link.link + 1 - f ≡ i + 1 = omega arith in
+    let room = rw z at (axes-room cs f a.end i c.requires (omega arith)) in
+    let count = rw z at (axes-count cs f i) in
+    rw more (
       omega arith,
-      omega (arith, c.put_axis-joint.ensures.0, c.loop-i.invariant.1, axes-count cs f i),
-      ap length c.put_axis-joint.ensures.1 ∙ length-splice c.loop-i.axes c.loop-i.joint (axis_piece cs (f + i)) (omega (arith, c.loop-i.invariant.2)) ∙ c.loop-i.invariant.2,
-      axes-turn cs f i _ c.loop-i.axes _ c.loop-i.joint c.loop-i.invariant.3 c.loop-i.invariant.1 (omega (arith, c.loop-i.invariant.1)) c.put_axis-joint.ensures.1,
+      omega (arith, c.put_axis-joint.ensures.0, c.loop-link.invariant.1, count),
+      ap length c.put_axis-joint.ensures.1 ∙ length-splice c.loop-link.axes c.loop-link.joint (axis_piece cs c.loop-link.link) (omega (arith, room, piece-length cs c.loop-link.link, c.loop-link.invariant.1, c.loop-link.invariant.2)) ∙ c.loop-link.invariant.2,
+      axes-turn cs f i _ c.loop-link.axes _ c.loop-link.joint c.loop-link.invariant.3 c.loop-link.invariant.1 (omega (arith, c.loop-link.invariant.1, c.loop-link.invariant.2, room)) (rw z c.put_axis-joint.ensures.1),
     )
 
 pub returns : goal.returns
 returns c =
-    let cs = c.args.codes.now in
-    let f = c.args.first in
-    axes-front cs f c.args.end c.loop-i.i _ c.loop-i.axes c.requires.order (omega arith) c.loop-i.invariant.3
+    let a = c.args in
+    axes-front a.codes.now a.first a.end (c.loop-link.link - a.first) _ c.loop-link.axes c.requires.order (omega arith) c.loop-link.invariant.3

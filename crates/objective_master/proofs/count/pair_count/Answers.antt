@@ -1,21 +1,21 @@
-use mathlib.Core.Path.{◌≡◌, ap}
-use Prim.Native.Nat.{◌-◌}
+use mathlib.Core.Path.{◌≡◌, ap, ◌∙◌}
+use Prim.Native.Nat.{suc, ◌+◌, ◌-◌}
 use native.Mathlib.Omega.{arith}
-use Rattle.self_collision.specs.Pairs.{triangle, triangle-less}
+use Rattle.self_collision.specs.Pairs.{triangle}
 use Rattle.objective_master.proofs.count.pair_count.Goals as goal
 
-pub loop-j-init : goal.loop-j-init
-loop-j-init c =
-    let n = c.args.n in
-    let e : n - 2 - 0 ≡ n - 2 = omega arith in
-    (omega arith, omega (arith, ap triangle e), omega arith)
+pub loop-k-init : goal.loop-k-init
+unfolding triangle
+loop-k-init c = (omega arith, omega arith, omega arith, omega arith)
 
-pub loop-j-preserved : goal.loop-j-preserved
-loop-j-preserved c = (omega arith, omega (arith, c.loop-j.invariant.1, triangle-less (c.args.n - 2) c.loop-j.j (omega arith)), omega arith)
+pub loop-k-preserved : goal.loop-k-preserved
+unfolding triangle
+loop-k-preserved c =
+    let more : c.loop-k.k + 1 - 2 ≡ suc (c.loop-k.k - 2) = omega arith in
+    rw more (omega arith, omega arith, omega arith, omega arith)
 
 pub returns : goal.returns
 unfolding triangle
 returns c =
-    let n = c.args.n in
-    let e : n - 2 - c.loop-j.j ≡ 0 = omega arith in
-    (omega (arith, c.loop-j.invariant.1, ap triangle e), omega arith)
+    let e : c.loop-k.k - 2 ≡ c.args.n - 2 = omega arith in
+    (c.loop-k.invariant.2 ∙ ap triangle e, omega arith)

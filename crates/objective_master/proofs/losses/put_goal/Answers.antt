@@ -1,5 +1,5 @@
 -- `put_goal` meets its contract: stored, or standing already.
-use mathlib.Core.Path.{sym, ap, ◌∙◌}
+use mathlib.Core.Path.{ap, ◌∙◌}
 use Rattle.geometry.specs.declared.pose.Pose.{Pose}
 use Rattle.lists.specs.Splice.{splice}
 use Rattle.spacetime.specs.Tool.{tip_of}
@@ -12,6 +12,3 @@ returns-then-walked_again c =
     c.put_pose_losses.ensures
     ∙ ap (λ (p : Pose). splice a.out.now a.at (pose_losses a.picks.strict a.goals.now a.c p))
     (c.tip-end.ensures ∙ ap (tip_of a.tools.now a.c) c.pose-last.ensures)
-
-pub returns : goal.returns
-returns c = c.requires.cached_piece (sym c.walked_again.ensures ∙ c.if-walked_again.false)

@@ -11,6 +11,3 @@ unfolding limit_losses limit_loss
 returns-then-is_raised c =
     let a = c.args in
     ap (set a.out.now a.at) c.each_joint_limits.ensures ∙ sym (splice-one a.out.now a.at _ (omega (arith, c.requires.j_in_bounds)))
-
-pub returns : goal.returns
-returns c = c.requires.cached_piece (sym c.is_raised.ensures ∙ c.if-is_raised.false)

@@ -1,23 +1,15 @@
 -- `put_pose_losses` meets its contract, of either list.
 use mathlib.Core.Path.{sym, ap, ◌∙◌}
 use mathlib.Core.Bool.{Bool}
-use native.Mathlib.Omega.{arith}
 use Rattle.lists.specs.Splice.{splice}
-use Rattle.objective_master.specs.Objective.{goal_width}
 use Rattle.objective_master.specs.Losses.{pose_losses}
 use Rattle.objective_master.proofs.losses.put_pose_losses.Goals as goal
-
-pub put_strict_losses-requires : goal.put_strict_losses-requires
-put_strict_losses-requires c = (c.requires.0, omega (arith, c.requires.1, ap goal_width c.if-picks.true))
 
 pub returns-then-picks : goal.returns-then-picks
 unfolding pose_losses
 returns-then-picks c =
     let a = c.args in
     c.put_strict_losses.ensures ∙ ap (λ (s : Bool). splice a.out.now a.at (pose_losses s a.goals.now a.c a.end)) (sym c.if-picks.true)
-
-pub put_tolerance_losses-requires : goal.put_tolerance_losses-requires
-put_tolerance_losses-requires c = (c.requires.0, omega (arith, c.requires.1, ap goal_width c.if-picks.false))
 
 pub returns : goal.returns
 unfolding pose_losses

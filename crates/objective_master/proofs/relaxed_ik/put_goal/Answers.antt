@@ -17,24 +17,24 @@ put-there : (t : List ℕ) (at : ℕ) (l ys : List ℕ) → at ≤ length t → 
 put-there t at l ys h e fit =
     ap (λ (m : List ℕ). take at t ++ (m ++ drop (length t - at) (drop at t))) e ∙ put-splice t at (length t - at) ys (omega arith) (omega arith)
 
-pub copy_numbers-requires : goal.copy_numbers-requires
+pub copy-requires : goal.copy-requires
 unfolding goal_width
-copy_numbers-requires c = omega (arith, c.requires, ap goal_width c.if-picks.true)
+copy-requires c = omega (arith, c.requires, ap goal_width c.if-picks.true)
 
 pub returns-then-picks : goal.returns-then-picks
 unfolding goal_kinds goal_width
 returns-then-picks c =
     let a = c.args in
-    put-there a.kinds.now a.at _ _ (omega (arith, c.requires)) c.copy_numbers.ensures (omega (arith, c.requires, ap goal_width c.if-picks.true))
+    put-there a.kinds.now a.at _ _ (omega (arith, c.requires)) c.copy.ensures (omega (arith, c.requires, ap goal_width c.if-picks.true))
     ∙ ap (λ (b : Bool). splice a.kinds.now a.at (goal_kinds b)) (sym c.if-picks.true)
 
-pub copy_numbers-requires-2 : goal.copy_numbers-requires-2
+pub copy-requires-2 : goal.copy-requires-2
 unfolding goal_width
-copy_numbers-requires-2 c = omega (arith, c.requires, ap goal_width c.if-picks.false)
+copy-requires-2 c = omega (arith, c.requires, ap goal_width c.if-picks.false)
 
 pub returns : goal.returns
 unfolding goal_kinds goal_width
 returns c =
     let a = c.args in
-    put-there a.kinds.now a.at _ _ (omega (arith, c.requires)) c.copy_numbers-2.ensures (omega (arith, c.requires, ap goal_width c.if-picks.false))
+    put-there a.kinds.now a.at _ _ (omega (arith, c.requires)) c.copy-2.ensures (omega (arith, c.requires, ap goal_width c.if-picks.false))
     ∙ ap (λ (b : Bool). splice a.kinds.now a.at (goal_kinds b)) (sym c.if-picks.false)

@@ -1,35 +1,31 @@
+-- `put_kind` meets its contract: a filled part.
 use mathlib.Core.Path.{◌≡◌, refl, sym, ap, ◌∙◌}
-use Prim.Native.Nat.{ℕ, ◌+◌, ◌*◌}
+use mathlib.Core.List.{List, [], ◌∷◌, ◌++◌}
+use Prim.Native.Nat.{ℕ, zero, suc, ◌+◌, ◌-◌}
 use native.Mathlib.Omega.{arith}
-use lib.ListN.{length, length-set}
-use Rattle.lists.specs.Splice.{splice, splice-one}
-use Rattle.lists.specs.Runs.{runs, length_runs, splice-none, splice-turn-at}
+use lib.ListN.{length, take, drop, replicate}
+use Rattle.std.proofs.Common.{add-one, length-drop, length-take-le, drop-drop}
+use Rattle.std.proofs.lemmas.List.{replicate_more}
+use Rattle.lists.specs.Splice.{splice}
+use Rattle.lists.specs.Runs.{runs, length_runs}
 use Rattle.objective_master.specs.Kinds.{only_kind, one-kind}
 use Rattle.objective_master.proofs.relaxed_ik.put_kind.Goals as goal
 
-pub loop-i-init : goal.loop-i-init
-loop-i-init c = (omega arith, refl, splice-none (only_kind _) _ _ 0)
-
-pub bounds-kinds-at : goal.bounds-kinds-at
-bounds-kinds-at c = omega (arith, c.loop-i.invariant.1)
-
-pub loop-i-preserved : goal.loop-i-preserved
-unfolding only_kind
-loop-i-preserved c =
-    let a = c.args in
-    let i = c.loop-i.i in
-    let n : length (runs (only_kind a.kind) 0 i) ≡ i * 1 = length_runs (only_kind a.kind) 1 (one-kind a.kind) 0 i in (
-      omega arith,
-      length-set c.loop-i.kinds (a.at + i) a.kind ∙ c.loop-i.invariant.1,
-      splice-turn-at (only_kind a.kind) a.kinds.now c.loop-i.kinds _ a.at (a.at + i) i c.loop-i.invariant.2 (omega arith) (omega arith)
-          (sym (splice-one c.loop-i.kinds (a.at + i) a.kind (omega (arith, c.loop-i.invariant.1)))),
-    )
-
-pub shape_of-kinds : goal.shape_of-kinds
-shape_of-kinds c = c.loop-i.invariant.1
+one-after-one : (k n : ℕ) → runs (only_kind k) 0 n ≡ replicate n k
+unfolding runs only_kind
+one-after-one k zero = refl
+one-after-one k (suc n) = ap (λ (l : List ℕ). l ++ (k ∷ [])) (one-after-one k n) ∙ rw add-one at (replicate_more n k)
 
 pub returns : goal.returns
+unfolding splice
 returns c =
     let a = c.args in
-    let e : c.loop-i.i ≡ a.n = omega arith in
-    c.loop-i.invariant.2 ∙ ap (λ (k : ℕ). splice a.kinds.now a.at (runs (only_kind a.kind) 0 k)) e
+    let t = a.kinds.now in
+    let k = a.at + a.n - a.at in
+    let ys = runs (only_kind a.kind) 0 a.n in
+    let part : length (take k (drop a.at t)) ≡ a.n = length-take-le k (drop a.at t) (omega (arith, length-drop a.at t)) ∙ omega arith in
+    let same : c.fill.new.self ≡ ys = c.fill.ensures.after (λ y e. e) ∙ ap (λ (m : ℕ). replicate m a.kind) part ∙ sym (one-after-one a.kind a.n) in
+    let long : k ≡ length ys = omega (arith, length_runs (only_kind a.kind) 1 (one-kind a.kind) 0 a.n) in
+    ap (λ (l : List ℕ). take a.at t ++ (l ++ drop k (drop a.at t))) same
+    ∙ ap (λ (m : ℕ). take a.at t ++ (ys ++ drop m (drop a.at t))) long
+    ∙ ap (λ (r : List ℕ). take a.at t ++ (ys ++ r)) (drop-drop (length ys) a.at t)

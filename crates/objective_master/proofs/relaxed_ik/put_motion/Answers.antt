@@ -14,5 +14,5 @@ returns c =
     let a = c.args in
     let t = a.kinds.now in
     let k = length t - a.at in
-    ap (λ (l : List ℕ). take a.at t ++ (l ++ drop k (drop a.at t))) c.copy_numbers.ensures
+    ap (λ (l : List ℕ). take a.at t ++ (l ++ drop k (drop a.at t))) c.copy.ensures
     ∙ put-splice t a.at k motion_kinds (omega arith) (omega arith)

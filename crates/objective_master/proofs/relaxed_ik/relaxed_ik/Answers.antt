@@ -1,86 +1,52 @@
 -- `relaxed_ik` meets its contract: section after section, each behind those before it.
 use mathlib.Core.Path.{◌≡◌, ◌∙◌}
-use Prim.Native.Nat.{◌+◌, ◌≤◌}
+use mathlib.Core.List.{List}
+use Prim.Native.Nat.{ℕ, ◌+◌, ◌*◌, ◌≤◌}
 use native.Mathlib.Omega.{arith}
 use lib.ListN.{length}
-use Rattle.sheet.specs.Chain.{joints, joint-last}
+use Rattle.sheet.specs.Chain.{joint_of, joints, joint-last}
+use Rattle.task.specs.declared.picks.Picks.{Picks}
+use Rattle.manipulability.specs.Jacobian.{Counted}
 use Rattle.self_collision.specs.Pairs.{all_pairs, first_arm, chain_lengths}
+use Rattle.objective_master.specs.Objective.{goal_width, objective_count}
 use Rattle.objective_master.specs.Kinds.{kinds-count, kinds-made}
 use Rattle.objective_master.proofs.relaxed_ik.relaxed_ik.Goals as goal
 
+-- the sections fill the list
+sections : (p : Picks) (ns cs : List ℕ) (n k j : ℕ) → Counted ns cs → n ≡ objective_count p ns cs → k ≡ length ns * goal_width p.strict → j ≡ joint_of cs (length cs)
+    → (n ≡ k + j + 4 + length (all_pairs first_arm (chain_lengths ns cs))) × (j ≡ joints cs) × (j ≤ 16)
+sections p ns cs n k j counted e₁ e₂ e₃ =
+    let last : j ≡ joints cs = e₃ ∙ joint-last cs in
+    (omega (arith, kinds-count p ns cs counted.whole), last, omega (arith, counted.few))
+
 pub overflow_add-motion : goal.overflow_add-motion
-overflow_add-motion c =
-    let enough : (c.objective_count-n.result ≡ c.goals_to-limits.result + c.joint_number-joints.result + 4 + length (all_pairs first_arm (chain_lengths c.args.counts.now c.args.codes.now))) × (c.objective_count-n.result ≤ length c.args.kinds.now) × (c.joint_number-joints.result ≡ joints c.args.codes.now) × (c.joint_number-joints.result ≤ 16) = let a = c.args in
-    let n = c.objective_count-n.ensures in
-    let j = c.joint_number-joints.ensures ∙ joint-last a.codes.now in
-    let k = kinds-count a.picks a.counts.now a.codes.now c.requires.counted.0.whole in
-    (omega (arith, n, j, k, c.goals_to-limits.ensures.0), omega (arith, n, c.requires.codes_in_bounds), j, omega (arith, j, c.requires.counted.0.few)) in
-    omega (arith, enough, c.goals_to-limits.ensures.1)
+overflow_add-motion c = omega (arith, sections _ _ _ _ _ _ c.requires.counted.0 c.objective_count-n.ensures c.goals_to-limits.ensures.0 c.joint_number-joints.ensures)
 
 pub overflow_add-pairs : goal.overflow_add-pairs
-overflow_add-pairs c =
-    let enough : (c.objective_count-n.result ≡ c.goals_to-limits.result + c.joint_number-joints.result + 4 + length (all_pairs first_arm (chain_lengths c.args.counts.now c.args.codes.now))) × (c.objective_count-n.result ≤ length c.args.kinds.now) × (c.joint_number-joints.result ≡ joints c.args.codes.now) × (c.joint_number-joints.result ≤ 16) = let a = c.args in
-    let n = c.objective_count-n.ensures in
-    let j = c.joint_number-joints.ensures ∙ joint-last a.codes.now in
-    let k = kinds-count a.picks a.counts.now a.codes.now c.requires.counted.0.whole in
-    (omega (arith, n, j, k, c.goals_to-limits.ensures.0), omega (arith, n, c.requires.codes_in_bounds), j, omega (arith, j, c.requires.counted.0.few)) in
-    omega (arith, enough, c.goals_to-limits.ensures.1)
+overflow_add-pairs c = omega (arith, sections _ _ _ _ _ _ c.requires.counted.0 c.objective_count-n.ensures c.goals_to-limits.ensures.0 c.joint_number-joints.ensures)
 
 pub put_goals-requires : goal.put_goals-requires
 put_goals-requires c =
-    let enough : (c.objective_count-n.result ≡ c.goals_to-limits.result + c.joint_number-joints.result + 4 + length (all_pairs first_arm (chain_lengths c.args.counts.now c.args.codes.now))) × (c.objective_count-n.result ≤ length c.args.kinds.now) × (c.joint_number-joints.result ≡ joints c.args.codes.now) × (c.joint_number-joints.result ≤ 16) = let a = c.args in
-    let n = c.objective_count-n.ensures in
-    let j = c.joint_number-joints.ensures ∙ joint-last a.codes.now in
-    let k = kinds-count a.picks a.counts.now a.codes.now c.requires.counted.0.whole in
-    (omega (arith, n, j, k, c.goals_to-limits.ensures.0), omega (arith, n, c.requires.codes_in_bounds), j, omega (arith, j, c.requires.counted.0.few)) in
-    (c.requires.counted.1, omega (arith, enough, c.goals_to-limits.ensures.0))
+    (c.requires.counted.1, omega (arith, sections _ _ _ _ _ _ c.requires.counted.0 c.objective_count-n.ensures c.goals_to-limits.ensures.0 c.joint_number-joints.ensures))
 
 pub put_kind-requires : goal.put_kind-requires
-put_kind-requires c =
-    let enough : (c.objective_count-n.result ≡ c.goals_to-limits.result + c.joint_number-joints.result + 4 + length (all_pairs first_arm (chain_lengths c.args.counts.now c.args.codes.now))) × (c.objective_count-n.result ≤ length c.args.kinds.now) × (c.joint_number-joints.result ≡ joints c.args.codes.now) × (c.joint_number-joints.result ≤ 16) = let a = c.args in
-    let n = c.objective_count-n.ensures in
-    let j = c.joint_number-joints.ensures ∙ joint-last a.codes.now in
-    let k = kinds-count a.picks a.counts.now a.codes.now c.requires.counted.0.whole in
-    (omega (arith, n, j, k, c.goals_to-limits.ensures.0), omega (arith, n, c.requires.codes_in_bounds), j, omega (arith, j, c.requires.counted.0.few)) in
-    omega (arith, enough, c.put_goals.auto)
+put_kind-requires c = omega (arith, sections _ _ _ _ _ _ c.requires.counted.0 c.objective_count-n.ensures c.goals_to-limits.ensures.0 c.joint_number-joints.ensures)
 
 pub put_motion-requires : goal.put_motion-requires
-put_motion-requires c =
-    let enough : (c.objective_count-n.result ≡ c.goals_to-limits.result + c.joint_number-joints.result + 4 + length (all_pairs first_arm (chain_lengths c.args.counts.now c.args.codes.now))) × (c.objective_count-n.result ≤ length c.args.kinds.now) × (c.joint_number-joints.result ≡ joints c.args.codes.now) × (c.joint_number-joints.result ≤ 16) = let a = c.args in
-    let n = c.objective_count-n.ensures in
-    let j = c.joint_number-joints.ensures ∙ joint-last a.codes.now in
-    let k = kinds-count a.picks a.counts.now a.codes.now c.requires.counted.0.whole in
-    (omega (arith, n, j, k, c.goals_to-limits.ensures.0), omega (arith, n, c.requires.codes_in_bounds), j, omega (arith, j, c.requires.counted.0.few)) in
-    omega (arith, enough, c.put_goals.auto, c.put_kind.auto)
+put_motion-requires c = omega (arith, sections _ _ _ _ _ _ c.requires.counted.0 c.objective_count-n.ensures c.goals_to-limits.ensures.0 c.joint_number-joints.ensures)
 
 pub overflow_sub-n : goal.overflow_sub-n
-overflow_sub-n c =
-    let enough : (c.objective_count-n.result ≡ c.goals_to-limits.result + c.joint_number-joints.result + 4 + length (all_pairs first_arm (chain_lengths c.args.counts.now c.args.codes.now))) × (c.objective_count-n.result ≤ length c.args.kinds.now) × (c.joint_number-joints.result ≡ joints c.args.codes.now) × (c.joint_number-joints.result ≤ 16) = let a = c.args in
-    let n = c.objective_count-n.ensures in
-    let j = c.joint_number-joints.ensures ∙ joint-last a.codes.now in
-    let k = kinds-count a.picks a.counts.now a.codes.now c.requires.counted.0.whole in
-    (omega (arith, n, j, k, c.goals_to-limits.ensures.0), omega (arith, n, c.requires.codes_in_bounds), j, omega (arith, j, c.requires.counted.0.few)) in
-    omega (arith, enough)
+overflow_sub-n c = omega (arith, sections _ _ _ _ _ _ c.requires.counted.0 c.objective_count-n.ensures c.goals_to-limits.ensures.0 c.joint_number-joints.ensures)
 
 pub put_kind-requires-2 : goal.put_kind-requires-2
-put_kind-requires-2 c =
-    let enough : (c.objective_count-n.result ≡ c.goals_to-limits.result + c.joint_number-joints.result + 4 + length (all_pairs first_arm (chain_lengths c.args.counts.now c.args.codes.now))) × (c.objective_count-n.result ≤ length c.args.kinds.now) × (c.joint_number-joints.result ≡ joints c.args.codes.now) × (c.joint_number-joints.result ≤ 16) = let a = c.args in
-    let n = c.objective_count-n.ensures in
-    let j = c.joint_number-joints.ensures ∙ joint-last a.codes.now in
-    let k = kinds-count a.picks a.counts.now a.codes.now c.requires.counted.0.whole in
-    (omega (arith, n, j, k, c.goals_to-limits.ensures.0), omega (arith, n, c.requires.codes_in_bounds), j, omega (arith, j, c.requires.counted.0.few)) in
-    omega (arith, enough, c.put_goals.auto, c.put_kind.auto, c.put_motion.auto)
+put_kind-requires-2 c = omega (arith, sections _ _ _ _ _ _ c.requires.counted.0 c.objective_count-n.ensures c.goals_to-limits.ensures.0 c.joint_number-joints.ensures)
 
 pub returns : goal.returns
 returns c =
-    let enough : (c.objective_count-n.result ≡ c.goals_to-limits.result + c.joint_number-joints.result + 4 + length (all_pairs first_arm (chain_lengths c.args.counts.now c.args.codes.now))) × (c.objective_count-n.result ≤ length c.args.kinds.now) × (c.joint_number-joints.result ≡ joints c.args.codes.now) × (c.joint_number-joints.result ≤ 16) = let a = c.args in
-    let n = c.objective_count-n.ensures in
-    let j = c.joint_number-joints.ensures ∙ joint-last a.codes.now in
-    let k = kinds-count a.picks a.counts.now a.codes.now c.requires.counted.0.whole in
-    (omega (arith, n, j, k, c.goals_to-limits.ensures.0), omega (arith, n, c.requires.codes_in_bounds), j, omega (arith, j, c.requires.counted.0.few)) in
     let a = c.args in
-    let n = c.objective_count-n.result in record {
+    let joint = (sections _ _ _ _ _ _ c.requires.counted.0 c.objective_count-n.ensures c.goals_to-limits.ensures.0 c.joint_number-joints.ensures).1 in record {
       value = c.objective_count-n.ensures;
-      kinds_after = kinds-made a.picks a.counts.now a.codes.now c.requires.counted.0.whole a.kinds.now _ _ _ _ n c.goals_to-limits.result c.joint_number-joints.result c.objective_count-n.ensures (enough).1 (enough).2 c.goals_to-limits.ensures.0
+      kinds_after = kinds-made a.picks a.counts.now a.codes.now c.requires.counted.0.whole a.kinds.now _ _ _ _ c.objective_count-n.result c.goals_to-limits.result c.joint_number-joints.result
+          c.objective_count-n.ensures (omega (arith, c.requires.codes_in_bounds)) joint c.goals_to-limits.ensures.0
           c.put_goals.ensures c.put_kind.ensures c.put_motion.ensures c.put_kind-2.ensures;
     }

@@ -7,10 +7,7 @@ use Rattle.one_block.specs.Laws.{below_none, below_more, below-most}
 use Rattle.one_block.proofs.grad.entries.Goals as goal
 
 pub loop-link-init : goal.loop-link-init
-loop-link-init c = (omega arith, omega (arith, below_none c.args.counts.now c.args.codes.now))
-
-pub entries_again-n-requires : goal.entries_again-n-requires
-entries_again-n-requires c = omega (arith, c.loop-link-test.true, c.requires)
+loop-link-init c = omega (arith, below_none c.args.counts.now c.args.codes.now)
 
 pub overflow_add-n : goal.overflow_add-n
 overflow_add-n c =
@@ -19,17 +16,11 @@ overflow_add-n c =
     let more = below_more c.args.counts.now c.args.codes.now k in
     omega (arith, t, c.requires, c.loop-link.invariant, c.entries_again-n.ensures, more, below-most c.args.counts.now c.args.codes.now (k + 1) (omega (arith, c.requires)) (omega (arith, c.requires, t)))
 
-pub overflow_add-link : goal.overflow_add-link
-overflow_add-link c = omega (arith, c.loop-link-test.true, c.requires)
-
-pub loop-link-smaller : goal.loop-link-smaller
-loop-link-smaller c = omega (arith, c.loop-link-test.true)
-
 pub loop-link-preserved : goal.loop-link-preserved
-loop-link-preserved c = (omega (arith, c.loop-link-test.true), omega (arith, c.loop-link.invariant, c.entries_again-n.ensures, below_more c.args.counts.now c.args.codes.now c.loop-link.link))
+loop-link-preserved c = omega (arith, c.loop-link.invariant, c.entries_again-n.ensures, below_more c.args.counts.now c.args.codes.now c.loop-link.link)
 
 pub returns : goal.returns
 unfolding entries_of
 returns c =
-    let e : c.loop-link.link ≡ length c.args.codes.now = omega (arith, c.loop-link.invariant, c.loop-link-test.false) in
-    rw e at c.loop-link.invariant.1
+    let e : c.loop-link.link ≡ length c.args.codes.now = omega (arith, c.loop-link-test.false) in
+    rw e at c.loop-link.invariant

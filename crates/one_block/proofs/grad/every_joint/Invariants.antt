@@ -1,6 +1,6 @@
 -- `every_joint` meets its contract: link after link what its joint's copy adds.
 use mathlib.Core.Path.{◌≡◌}
-use Prim.Native.Nat.{◌+◌, ◌-◌, ◌*◌, ◌≤◌}
+use Prim.Native.Nat.{◌+◌, ◌*◌}
 use lib.ListN.{length}
 use Rattle.lists.specs.Splice.{splice}
 use Rattle.lists.specs.Runs.{runs}
@@ -13,12 +13,8 @@ use Rattle.one_block.proofs.grad.every_joint.Given as goal
 
 abbrev pub invariant-loop-link : goal.invariant-loop-link
 invariant-loop-link l =
-    (l.link ≤ length l.codes) × Meets l.counts l.codes l.floats l.initial.block l.link l.p × (l.p.at ≡ length l.codes + again_below l.counts l.codes l.link) × (l.block ≡ l.initial.block)
+    Meets l.counts l.codes l.floats l.initial.block l.link l.p × (l.p.at ≡ length l.codes + again_below l.counts l.codes l.link) × (l.block ≡ l.initial.block)
     × (l.joints ≡ splice l.initial.joints (length l.codes) (runs (again_of joint_entry l.counts l.codes) 0 l.link))
     × (l.links ≡ splice l.initial.links (length l.codes) (runs (again_of link_entry l.counts l.codes) 0 l.link))
     × (l.frames ≡ splice l.initial.frames (7 * length l.codes) (runs (again_of (pose_entry l.counts l.codes l.floats l.initial.block) l.counts l.codes) 0 l.link))
-    × (length l.joints ≡ length l.initial.joints) × (length l.links ≡ length l.initial.links) × (length l.frames ≡ length l.initial.frames)
-    × (l.grad ≡ splice l.initial.grad 0 (listed (gradient_at (given_of l.counts l.codes l.task l.picks) l.floats l.initial.block) (joint_of l.codes l.link))) × (length l.grad ≡ length l.initial.grad)
-
-abbrev pub decreases-loop-link : goal.decreases-loop-link
-decreases-loop-link l = length l.codes - l.link
+    × (l.grad ≡ splice l.initial.grad 0 (listed (gradient_at (given_of l.counts l.codes l.task l.picks) l.floats l.initial.block) (joint_of l.codes l.link)))

@@ -1,5 +1,5 @@
 -- `gradient` meets its contract: the kinds, the first walk and its losses, then every joint's turn.
-use mathlib.Core.Path.{◌≡◌, ap, ◌∙◌}
+use mathlib.Core.Path.{ap, ◌∙◌}
 use mathlib.Core.List.{List}
 use Prim.Native.Nat.{ℕ, ◌*◌}
 use native.Mathlib.Omega.{arith}
@@ -12,8 +12,7 @@ use Rattle.task.specs.Task.{Given, given_of}
 use Rattle.spacetime.specs.Walk.{frames_of}
 use Rattle.objective_master.specs.Kinds.{kinds-length}
 use Rattle.objective_master.specs.Weights.{weighted_by}
-use Rattle.gradient.specs.Gradient.{losses_at}
-use Rattle.gradient.specs.Ready.{KindsListed, kinds-most, kinds-listed, lent-whole, cached-whole, losses-walked}
+use Rattle.gradient.specs.Ready.{kinds-most, kinds-listed, lent-whole, cached-whole, losses-walked}
 use Rattle.gradient.specs.Made.{losses-front, value_made}
 use Rattle.one_block.specs.Record.{again_of, record_of, joint_entry, link_entry, pose_entry, record_joints, record_links, record_poses}
 use Rattle.one_block.specs.Laws.{joint-entry, link-entry, pose-entry, frames-length, entries_over, first-poses}
@@ -27,11 +26,20 @@ relaxed_ik-n-requires c =
     let T = a.task.now in
     let gs = a.floats.now in
     let x = a.block.now in
-    let G : Given = given_of ns cs T a.picks in
     let r = c.requires.ready.0 in record {
       counted = (r.paired.counted, r.sheet.chains);
       codes_in_bounds = omega (arith, kinds-most ns cs T a.picks gs x r, kinds-length a.picks ns cs);
     }
+
+pub slice_bounds-list-end : goal.slice_bounds-list-end
+slice_bounds-list-end c =
+    let k = c.relaxed_ik-n in
+    (kinds-listed _ _ _ _ _ _ c.requires.ready.0 _ _ _ k.auto.kinds k.ensures.value k.ensures.kinds_after).within
+
+pub slice_bounds-kinds-end : goal.slice_bounds-kinds-end
+slice_bounds-kinds-end c =
+    let k = c.relaxed_ik-n in
+    (kinds-listed _ _ _ _ _ _ c.requires.ready.0 _ _ _ k.auto.kinds k.ensures.value k.ensures.kinds_after).many
 
 pub first_walk-requires : goal.first_walk-requires
 first_walk-requires c =
@@ -48,43 +56,19 @@ put_losses-requires c =
     let T = a.task.now in
     let gs = a.floats.now in
     let x = a.block.now in
-    let G : Given = given_of ns cs T a.picks in
     let w = c.first_walk in
     let r = c.requires.ready.0 in record {
       lent = lent-whole ns cs T a.picks gs x r w.new.frames (omega (arith, c.requires.room, entries_over ns cs, w.auto.frames));
       cached = cached-whole ns cs T a.picks gs x r _ _ (kinds-most ns cs T a.picks gs x r);
     }
 
-pub slice_bounds-list-end : goal.slice_bounds-list-end
-slice_bounds-list-end c =
-    let listed : KindsListed c.args.picks c.args.counts.now c.args.codes.now c.relaxed_ik-n.new.kinds c.relaxed_ik-n.result = let a = c.args in
-    let k = c.relaxed_ik-n in
-    kinds-listed a.counts.now a.codes.now a.task.now a.picks a.floats.now a.block.now c.requires.ready.0 _ _ _ k.auto.kinds k.ensures.value k.ensures.kinds_after in
-    (listed).within
-
-pub slice_bounds-every_joint-end : goal.slice_bounds-every_joint-end
-slice_bounds-every_joint-end c =
-    let listed : KindsListed c.args.picks c.args.counts.now c.args.codes.now c.relaxed_ik-n.new.kinds c.relaxed_ik-n.result = let a = c.args in
-    let k = c.relaxed_ik-n in
-    kinds-listed a.counts.now a.codes.now a.task.now a.picks a.floats.now a.block.now c.requires.ready.0 _ _ _ k.auto.kinds k.ensures.value k.ensures.kinds_after in
-    (listed).many
-
 pub every_joint-requires : goal.every_joint-requires
 unfolding given_of
 every_joint-requires c =
-    let listed : KindsListed c.args.picks c.args.counts.now c.args.codes.now c.relaxed_ik-n.new.kinds c.relaxed_ik-n.result = let a = c.args in
     let k = c.relaxed_ik-n in
-    kinds-listed a.counts.now a.codes.now a.task.now a.picks a.floats.now a.block.now c.requires.ready.0 _ _ _ k.auto.kinds k.ensures.value k.ensures.kinds_after in
-    let losses₀ : List Float = c.put_losses.new.out in
-    let made : losses₀ ≡ splice (replicate 131 nought) 0 (losses_at (given_of c.args.counts.now c.args.codes.now c.args.task.now c.args.picks) c.args.floats.now c.args.block.now) = let w = c.first_walk in
-    let a = c.args in
-    let ns = a.counts.now in
-    let cs = a.codes.now in
-    let T = a.task.now in
-    let gs = a.floats.now in
-    let x = a.block.now in
-    let G : Given = given_of ns cs T a.picks in
-    c.put_losses.ensures ∙ ap (splice (replicate 131 nought) 0) (losses-walked ns cs T a.picks gs x c.requires.ready.0 a.frames.now w.new.frames (omega (arith, c.requires.room, entries_over ns cs)) w.ensures.frames_after) in
+    let listed = kinds-listed _ _ _ _ _ _ c.requires.ready.0 _ _ _ k.auto.kinds k.ensures.value k.ensures.kinds_after in
+    let losses₀ = c.put_losses.new.out in
+    let made = c.put_losses.ensures ∙ ap (splice (replicate 131 nought) 0) (losses-walked _ _ _ _ _ _ c.requires.ready.0 _ _ (omega (arith, c.requires.room, entries_over c.args.counts.now c.args.codes.now)) c.first_walk.ensures.frames_after) in
     let w = c.first_walk in
     let a = c.args in
     let ns = a.counts.now in
@@ -99,62 +83,20 @@ every_joint-requires c =
       room = record { joints-room = omega (arith, c.requires.room, w.auto.joints); links-room = omega (arith, c.requires.room, w.auto.links); frames-room = omega (arith, c.requires.room, w.auto.frames) };
       frames_value = ap (take (7 * n)) w.ensures.frames_after ∙ part-splice a.frames.now 0 (7 * n) (frames_of ns cs gs x) (omega arith) (frames-length ns cs gs x);
       basis = record {
-        kinds = (listed).front;
-        losses = losses-front G gs x (replicate 131 nought) (losses₀) _ (ap length (listed).front ∙ kinds-length a.picks ns cs) (made);
-        losses-room = omega (arith, (listed).few, c.put_losses.auto.out);
+        kinds = listed.front;
+        losses = losses-front G gs x (replicate 131 nought) losses₀ _ (ap length listed.front ∙ kinds-length a.picks ns cs) made;
+        losses-room = omega (arith, listed.few, c.put_losses.auto.out);
         slopes-room = c.requires.ready.1;
       };
     }
 
-pub weights-requires : goal.weights-requires
-weights-requires c = c.requires.ready.0.whole
-
-pub slice_bounds-list-end-2 : goal.slice_bounds-list-end-2
-slice_bounds-list-end-2 c =
-    let listed : KindsListed c.args.picks c.args.counts.now c.args.codes.now c.relaxed_ik-n.new.kinds c.relaxed_ik-n.result = let a = c.args in
-    let k = c.relaxed_ik-n in
-    kinds-listed a.counts.now a.codes.now a.task.now a.picks a.floats.now a.block.now c.requires.ready.0 _ _ _ k.auto.kinds k.ensures.value k.ensures.kinds_after in
-    (listed).within
-
-pub slice_bounds-weighted_sum-end : goal.slice_bounds-weighted_sum-end
-slice_bounds-weighted_sum-end c =
-    let listed : KindsListed c.args.picks c.args.counts.now c.args.codes.now c.relaxed_ik-n.new.kinds c.relaxed_ik-n.result = let a = c.args in
-    let k = c.relaxed_ik-n in
-    kinds-listed a.counts.now a.codes.now a.task.now a.picks a.floats.now a.block.now c.requires.ready.0 _ _ _ k.auto.kinds k.ensures.value k.ensures.kinds_after in
-    (listed).many
-
-pub weighted_sum-requires : goal.weighted_sum-requires
-weighted_sum-requires c =
-    let listed : KindsListed c.args.picks c.args.counts.now c.args.codes.now c.relaxed_ik-n.new.kinds c.relaxed_ik-n.result = let a = c.args in
-    let k = c.relaxed_ik-n in
-    kinds-listed a.counts.now a.codes.now a.task.now a.picks a.floats.now a.block.now c.requires.ready.0 _ _ _ k.auto.kinds k.ensures.value k.ensures.kinds_after in
-    omega (arith, (listed).few, c.put_losses.auto.out)
-
-pub shape_of-joints : goal.shape_of-joints
-shape_of-joints c = c.every_joint.auto.joints ∙ c.first_walk.auto.joints
-
-pub shape_of-links : goal.shape_of-links
-shape_of-links c = c.every_joint.auto.links ∙ c.first_walk.auto.links
-
-pub shape_of-frames : goal.shape_of-frames
-shape_of-frames c = c.every_joint.auto.frames ∙ c.first_walk.auto.frames
-
 pub returns : goal.returns
 unfolding record_joints record_links record_poses record_of given_of
 returns c =
-    let listed : KindsListed c.args.picks c.args.counts.now c.args.codes.now c.relaxed_ik-n.new.kinds c.relaxed_ik-n.result = let a = c.args in
     let k = c.relaxed_ik-n in
-    kinds-listed a.counts.now a.codes.now a.task.now a.picks a.floats.now a.block.now c.requires.ready.0 _ _ _ k.auto.kinds k.ensures.value k.ensures.kinds_after in
-    let losses₀ : List Float = c.put_losses.new.out in
-    let made : losses₀ ≡ splice (replicate 131 nought) 0 (losses_at (given_of c.args.counts.now c.args.codes.now c.args.task.now c.args.picks) c.args.floats.now c.args.block.now) = let w = c.first_walk in
-    let a = c.args in
-    let ns = a.counts.now in
-    let cs = a.codes.now in
-    let T = a.task.now in
-    let gs = a.floats.now in
-    let x = a.block.now in
-    let G : Given = given_of ns cs T a.picks in
-    c.put_losses.ensures ∙ ap (splice (replicate 131 nought) 0) (losses-walked ns cs T a.picks gs x c.requires.ready.0 a.frames.now w.new.frames (omega (arith, c.requires.room, entries_over ns cs)) w.ensures.frames_after) in
+    let listed = kinds-listed _ _ _ _ _ _ c.requires.ready.0 _ _ _ k.auto.kinds k.ensures.value k.ensures.kinds_after in
+    let losses₀ = c.put_losses.new.out in
+    let made = c.put_losses.ensures ∙ ap (splice (replicate 131 nought) 0) (losses-walked _ _ _ _ _ _ c.requires.ready.0 _ _ (omega (arith, c.requires.room, entries_over c.args.counts.now c.args.codes.now)) c.first_walk.ensures.frames_after) in
     let w = c.first_walk in
     let t = c.every_joint in
     let a = c.args in
@@ -173,8 +115,8 @@ returns c =
     let lj = length_runs (joint_entry 65535) 1 (joint-entry 65535) 0 n in
     let ll = length_runs (link_entry 65535) 1 (link-entry 65535) 0 n in
     let lp = length_runs (pose_entry ns cs gs x 65535) 7 (pose-entry ns cs gs x 65535) 0 n in record {
-      value = c.weighted_sum.ensures ∙ ap (λ (ws : List Float). weighted_by ws ks (losses₀)) c.weights.ensures.0
-          ∙ value_made G gs x ks (listed).front (replicate 131 nought) (losses₀) (listed).few (made);
+      value = c.weighted_sum.ensures ∙ ap (λ (ws : List Float). weighted_by ws ks losses₀) c.weights.ensures.0
+          ∙ value_made G gs x ks listed.front (replicate 131 nought) losses₀ listed.few made;
       grad_after = t.ensures.grad_after;
       block_after = t.ensures.block_after;
       joints_after = (

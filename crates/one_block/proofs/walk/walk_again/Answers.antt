@@ -12,15 +12,6 @@ overflow_cast-raised c =
     let i = joint-small a.counts.now a.codes.now a.floats.now a.block.now c.requires.sheet a.link (omega (arith, c.requires.link_le_end)) in
     omega (arith, i, c.requires.meets.number)
 
-pub walk-after-requires : goal.walk-after-requires
-walk-after-requires c =
-    record {
-      sheet = c.requires.sheet;
-      from_le_to = c.requires.link_le_end;
-      meets = c.requires.meets;
-      room = c.requires.room;
-    }
-
 pub returns : goal.returns
 returns c =
     let w = c.walk-after in

@@ -14,30 +14,6 @@ after_link-pose-requires c =
       at_in_bounds_2 = omega (arith, i, c.requires.link_in_bounds.1);
     }
 
-pub offset_bounds-joints-at : goal.offset_bounds-joints-at
-offset_bounds-joints-at c = omega (arith, c.requires, c.well_formed)
-
-pub bounds-joints-at : goal.bounds-joints-at
-bounds-joints-at c = omega (arith, c.requires)
-
-pub overflow_cast-links : goal.overflow_cast-links
-overflow_cast-links c = omega (arith, c.requires)
-
-pub offset_bounds-links-at : goal.offset_bounds-links-at
-offset_bounds-links-at c = omega (arith, c.requires, c.well_formed)
-
-pub bounds-links-at : goal.bounds-links-at
-bounds-links-at c = omega (arith, c.requires)
-
-pub overflow_mul-at : goal.overflow_mul-at
-overflow_mul-at c = omega (arith, c.requires, c.well_formed)
-
-pub put-requires : goal.put-requires
-put-requires c = omega (arith, c.requires)
-
-pub overflow_add-result : goal.overflow_add-result
-overflow_add-result c = omega (arith, c.requires, c.well_formed)
-
 pub next_joint-requires : goal.next_joint-requires
 next_joint-requires c =
     let a = c.args in

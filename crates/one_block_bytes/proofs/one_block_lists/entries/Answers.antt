@@ -6,7 +6,6 @@ use native.Mathlib.Omega.{arith}
 use lib.ListN.{length}
 use Rattle.sheet.specs.Chain.{total}
 use Rattle.one_block.specs.Record.{entries_of}
-use borrow.Author.Rules.{rules}
 use Rattle.one_block_bytes.proofs.one_block_lists.entries.Goals as goal
 
 pub entries-requires : goal.entries-requires

@@ -13,7 +13,6 @@ use Rattle.lent_bytes.specs.SheetLists.{SheetLists, sheet_with}
 use Rattle.objective_bytes.specs.ObjectiveLaws.{slopes-in-length}
 use Rattle.one_block_bytes.specs.OneBlockCalls.{record_joints_in, record_links_in, record_poses_in}
 use Rattle.one_block_bytes.specs.OneBlockLaws.{task-counted, joints-in-length, links-in-length, poses-in-length}
-use borrow.Author.Rules.{rules}
 use Rattle.one_block_bytes.proofs.one_block_lists.put_one_block.Goals as goal
 
 pub one_block_on-v-requires : goal.one_block_on-v-requires

@@ -4,7 +4,6 @@ use Prim.Native.Nat.{◌*◌}
 use native.Mathlib.Omega.{arith}
 use lib.ListN.{length, take}
 use lib.Seq.{length-take-le}
-use borrow.Author.Rules.{rules}
 use Rattle.one_block_bytes.proofs.one_block_lists.put_record.Goals as goal
 
 pub slice_bounds-put_numbers-end : goal.slice_bounds-put_numbers-end

@@ -3,7 +3,6 @@ use mathlib.Core.Path.{◌≡◌, sym}
 use native.Mathlib.Omega.{arith}
 use lib.ListN.{length, take}
 use lib.Seq.{length-take-le}
-use borrow.Author.Rules.{rules}
 use Rattle.one_block_bytes.proofs.one_block_lists.put_slopes.Goals as goal
 
 pub slice_bounds-put_floats-end-2 : goal.slice_bounds-put_floats-end-2

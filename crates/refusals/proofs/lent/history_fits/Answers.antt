@@ -1,4 +1,4 @@
-use mathlib.Core.Path.{◌≡◌, sym, ap, ◌∙◌}
+use mathlib.Core.Path.{◌≡◌, refl, sym, ap, ◌∙◌}
 use mathlib.Core.Bool.{Bool}
 use mathlib.Core.List.{List}
 use Prim.Native.Nat.{ℕ, ◌+◌, ◌*◌, ◌≤◌}
@@ -17,12 +17,12 @@ link_four codes history n l = every (λ (b : ℕ). link_value_fits codes history
 pub loop-l-init : goal.loop-l-init
 loop-l-init c = (omega arith, sym (every-none _), sym (joint-zero c.args.codes.now))
 
-pub joint_history_fits-requires : goal.joint_history_fits-requires
-joint_history_fits-requires c =
+pub joint_history_fits-ok-requires : goal.joint_history_fits-ok-requires
+joint_history_fits-ok-requires c =
     let inside : c.loop-l.j + joints_of (get_or c.args.codes.now c.loop-l.l 0) ≤ c.args.n = let cs = c.args.codes.now in
     let l = c.loop-l.l in
     omega (arith, c.loop-l.invariant.2, joint-more cs l, joint-mono cs (l + 1) (length cs) (omega (arith, c.loop-l-test.true)), joint-last cs, c.requires) in
-    omega (arith, inside, ap joints_of c.read-code.ensures, c.requires)
+    omega (arith, inside, c.requires)
 
 pub next_joint-j-requires : goal.next_joint-j-requires
 next_joint-j-requires c =
@@ -37,7 +37,7 @@ loop-l-preserved c =
     let i = c.loop-l.invariant in
     let fits : ℕ → ℕ → Bool = λ (k j : ℕ). every (λ (b : ℕ). value_fits k c.args.history.now (b * c.args.n + j)) 4 in (
       omega arith,
-      every-turn _ _ _ _ _ i.1 (c.joint_history_fits.ensures ∙ ap (λ (k : ℕ). fits k c.loop-l.j) c.read-code.ensures ∙ ap (fits _) i.2) c.both-ok.ensures,
+      every-turn _ _ _ _ _ i.1 (c.joint_history_fits-ok.ensures ∙ ap (fits _) i.2) refl,
       omega (arith, c.next_joint-j.ensures, joint-more c.args.codes.now c.loop-l.l, i.2),
     )
 

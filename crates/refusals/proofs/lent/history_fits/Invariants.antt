@@ -1,9 +1,9 @@
 -- `lent::history_fits` meets its contract. The loop carries the answer for the links passed, each in all four blocks, and the number of the
--- next joint; link by link is block by block. The measure is the number of links left.
+-- next joint; link by link is block by block.
 use mathlib.Core.Path.{◌≡◌}
 use mathlib.Core.Bool.{Bool}
 use mathlib.Core.List.{List}
-use Prim.Native.Nat.{ℕ, ◌-◌, ◌*◌, ◌≤◌}
+use Prim.Native.Nat.{ℕ, ◌*◌, ◌≤◌}
 use lib.Ieee.{Float}
 use lib.ListN.{length}
 use Rattle.sheet.specs.Chain.{joint_of}
@@ -17,6 +17,3 @@ link_four codes history n l = every (λ (b : ℕ). link_value_fits codes history
 
 abbrev pub invariant-loop-l : goal.invariant-loop-l
 invariant-loop-l l = (l.l ≤ length l.codes) × (l.ok ≡ every (link_four l.codes l.history l.n) l.l) × (l.j ≡ joint_of l.codes l.l)
-
-abbrev pub decreases-loop-l : goal.decreases-loop-l
-decreases-loop-l l = length l.codes - l.l

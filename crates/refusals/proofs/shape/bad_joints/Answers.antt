@@ -31,13 +31,8 @@ joint_number-next-requires c =
     let inside : c.loop-c.link + get_or c.args.counts.now c.loop-c.c 0 ≤ length c.args.codes.now = links-inside c.args.counts.now c.args.codes.now c.loop-c.c c.loop-c.link c.loop-c.invariant.3 c.loop-c-test.true c.requires.1 in
     inside
 
-pub overflow_sub-next : goal.overflow_sub-next
-overflow_sub-next c =
-    let grows : c.loop-c.joint ≤ c.joint_number-next.result = joint-grows _ _ c.loop-c.c c.loop-c.link c.loop-c.invariant.3 _ _ c.loop-c.invariant.4 c.joint_number-next.ensures in
-    grows
-
-pub overflow_sub-next-in-loop-c : goal.overflow_sub-next-in-loop-c
-overflow_sub-next-in-loop-c c =
+pub overflow_sub-moving : goal.overflow_sub-moving
+overflow_sub-moving c =
     let grows : c.loop-c.joint ≤ c.joint_number-next.result = joint-grows _ _ c.loop-c.c c.loop-c.link c.loop-c.invariant.3 _ _ c.loop-c.invariant.4 c.joint_number-next.ensures in
     grows
 
@@ -47,8 +42,8 @@ loop-c-preserved c =
     let counted : c.joint_number-next.result - c.loop-c.joint ≡ chain_length c.args.counts.now c.args.codes.now c.loop-c.c = length-here _ _ c.loop-c.c c.loop-c.link c.loop-c.invariant.3 _ _ c.loop-c.invariant.4 c.joint_number-next.ensures in
     let most = get_or c.args.counts.now 0 0 in (
       omega arith,
-      every-turn _ _ _ _ _ c.loop-c.invariant.1 (ap (leb 2) (counted)) c.both-two.ensures,
-      every-turn _ _ _ _ _ c.loop-c.invariant.2 (c.later_fits.ensures ∙ ap (λ (k : ℕ). eqb c.loop-c.c 0 || leb k most) (counted)) c.both-few.ensures,
+      every-turn _ _ _ _ _ c.loop-c.invariant.1 (ap (leb 2) (counted)) refl,
+      every-turn _ _ _ _ _ c.loop-c.invariant.2 (c.later_fits-few.ensures ∙ ap (λ (k : ℕ). eqb c.loop-c.c 0 || leb k most) (counted)) refl,
       next-link c.args.counts.now c.args.codes.now c.loop-c.c c.loop-c.link c.loop-c.invariant.3,
       next-joint _ _ c.loop-c.c c.loop-c.link c.loop-c.invariant.3 c.loop-c.joint _ c.loop-c.invariant.4 c.joint_number-next.ensures,
     )

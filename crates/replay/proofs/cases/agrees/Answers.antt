@@ -1,64 +1,49 @@
--- `agrees` meets its contract: by the tests of the call's number.
+-- `agrees` meets its contract: by the call's number.
 use native.Mathlib.Omega.{arith}
 use borrow.Author.Tests.{eq-eqb, ne_eqb, lt-ltb, le-ltb}
 use Rattle.replay.specs.Cases.{call_agrees, record_agrees}
-use borrow.Author.Rules.{rules}
 use Rattle.replay.proofs.cases.agrees.Goals as goal
 
-pub returns-then-call-eq0 : goal.returns-then-call-eq0
+pub returns-in-0 : goal.returns-in-0
 unfolding record_agrees call_agrees
-returns-then-call-eq0 c = rw (← c.number_at-call.ensures.0, eq-eqb _ 0 c.if-call-eq0.true) c.load.ensures
+returns-in-0 c = let n = c.call-call.result in rw (← c.call-call.ensures.0, eq-eqb n 0 (c.in-0.is)) c.load.ensures
 
-pub returns-then-call-eq1 : goal.returns-then-call-eq1
+pub returns-in-1 : goal.returns-in-1
 unfolding record_agrees call_agrees
-returns-then-call-eq1 c = rw (← c.number_at-call.ensures.0, ne_eqb _ 0 c.if-call-eq0.false, eq-eqb _ 1 c.if-call-eq1.true) c.set_goals.ensures
+returns-in-1 c = let n = c.call-call.result in rw (← c.call-call.ensures.0, ne_eqb n 0 (omega arith), eq-eqb n 1 (c.in-1.is)) c.set_goals.ensures
 
-pub one_output-requires : goal.one_output-requires
-one_output-requires c =
-    record {
-      at_bound = search rules;
-      le_call = (omega (arith, c.if-call-eq0.false, c.if-call-eq1.false), c.if-call-lt6.true);
-    }
-
-pub returns-then-call-lt6 : goal.returns-then-call-lt6
+pub returns-in-2-to-5 : goal.returns-in-2-to-5
 unfolding record_agrees call_agrees
-returns-then-call-lt6 c = rw (← c.number_at-call.ensures.0, ne_eqb _ 0 c.if-call-eq0.false, ne_eqb _ 1 c.if-call-eq1.false, lt-ltb _ 6 c.if-call-lt6.true) c.one_output.ensures
+returns-in-2-to-5 c = let n = c.call-call.result in rw (← c.call-call.ensures.0, ne_eqb n 0 (omega arith), ne_eqb n 1 (omega arith), lt-ltb n 6 (omega arith)) c.one_output.ensures
 
-pub two_outputs-requires : goal.two_outputs-requires
-two_outputs-requires c =
-    record {
-      at_bound = search rules;
-      le_call = (c.if-call-lt6.false, c.if-call-lt8.true);
-    }
-
-pub returns-then-call-lt8 : goal.returns-then-call-lt8
+pub returns-in-6-to-7 : goal.returns-in-6-to-7
 unfolding record_agrees call_agrees
-returns-then-call-lt8 c = rw (← c.number_at-call.ensures.0, ne_eqb _ 0 c.if-call-eq0.false, ne_eqb _ 1 c.if-call-eq1.false, le-ltb _ 6 c.if-call-lt6.false, lt-ltb _ 8 c.if-call-lt8.true) c.two_outputs.ensures
+returns-in-6-to-7 c = let n = c.call-call.result in rw (← c.call-call.ensures.0, ne_eqb n 0 (omega arith), ne_eqb n 1 (omega arith), le-ltb n 6 (omega arith), lt-ltb n 8 (omega arith)) c.two_outputs.ensures
 
-pub returns-then-call-lt10 : goal.returns-then-call-lt10
+pub returns-in-8-to-9 : goal.returns-in-8-to-9
 unfolding record_agrees call_agrees
-returns-then-call-lt10 c = rw (← c.number_at-call.ensures.0, ne_eqb _ 0 c.if-call-eq0.false, ne_eqb _ 1 c.if-call-eq1.false, le-ltb _ 6 c.if-call-lt6.false, le-ltb _ 8 c.if-call-lt8.false, lt-ltb _ 10 c.if-call-lt10.true) c.three_outputs.ensures
+returns-in-8-to-9 c = let n = c.call-call.result in rw (← c.call-call.ensures.0, ne_eqb n 0 (omega arith), ne_eqb n 1 (omega arith), le-ltb n 6 (omega arith), le-ltb n 8 (omega arith), lt-ltb n 10 (omega arith)) c.three_outputs.ensures
 
-pub returns-then-call-eq10 : goal.returns-then-call-eq10
+pub returns-in-10 : goal.returns-in-10
 unfolding record_agrees call_agrees
-returns-then-call-eq10 c = rw (← c.number_at-call.ensures.0, ne_eqb _ 0 c.if-call-eq0.false, ne_eqb _ 1 c.if-call-eq1.false, le-ltb _ 6 c.if-call-lt6.false, le-ltb _ 8 c.if-call-lt8.false, le-ltb _ 10 c.if-call-lt10.false, eq-eqb _ 10 c.if-call-eq10.true) c.five_outputs.ensures
+returns-in-10 c = let n = c.call-call.result in rw (← c.call-call.ensures.0, ne_eqb n 0 (omega arith), ne_eqb n 1 (omega arith), le-ltb n 6 (omega arith), le-ltb n 8 (omega arith), le-ltb n 10 (omega arith), eq-eqb n 10 (c.in-10.is)) c.five_outputs.ensures
 
-pub returns-then-call-eq41 : goal.returns-then-call-eq41
+pub returns-in-11-to-40 : goal.returns-in-11-to-40
 unfolding record_agrees call_agrees
-returns-then-call-eq41 c = rw (← c.number_at-call.ensures.0, ne_eqb _ 0 c.if-call-eq0.false, ne_eqb _ 1 c.if-call-eq1.false, le-ltb _ 6 c.if-call-lt6.false, le-ltb _ 8 c.if-call-lt8.false, le-ltb _ 10 c.if-call-lt10.false, ne_eqb _ 10 c.if-call-eq10.false, eq-eqb _ 41 c.if-call-eq41.true) c.plan_output.ensures
+returns-in-11-to-40 c = let n = c.call-call.result in rw (← c.call-call.ensures.0, ne_eqb n 0 (omega arith), ne_eqb n 1 (omega arith), le-ltb n 6 (omega arith), le-ltb n 8 (omega arith), le-ltb n 10 (omega arith), ne_eqb n 10 (omega arith), ne_eqb n 41 (omega arith), ne_eqb n 42 (omega arith), ne_eqb n 43 (omega arith), lt-ltb n 44 (omega arith)) c.leaf.ensures
 
-pub returns-then-call-eq42 : goal.returns-then-call-eq42
+pub returns-in-41 : goal.returns-in-41
 unfolding record_agrees call_agrees
-returns-then-call-eq42 c = rw (← c.number_at-call.ensures.0, ne_eqb _ 0 c.if-call-eq0.false, ne_eqb _ 1 c.if-call-eq1.false, le-ltb _ 6 c.if-call-lt6.false, le-ltb _ 8 c.if-call-lt8.false, le-ltb _ 10 c.if-call-lt10.false, ne_eqb _ 10 c.if-call-eq10.false, ne_eqb _ 41 c.if-call-eq41.false, eq-eqb _ 42 c.if-call-eq42.true) c.set_weights.ensures
+returns-in-41 c = let n = c.call-call.result in rw (← c.call-call.ensures.0, ne_eqb n 0 (omega arith), ne_eqb n 1 (omega arith), le-ltb n 6 (omega arith), le-ltb n 8 (omega arith), le-ltb n 10 (omega arith), ne_eqb n 10 (omega arith), eq-eqb n 41 (c.in-41.is)) c.plan_output.ensures
 
-pub returns-then-call-eq43 : goal.returns-then-call-eq43
+pub returns-in-42 : goal.returns-in-42
 unfolding record_agrees call_agrees
-returns-then-call-eq43 c = rw (← c.number_at-call.ensures.0, ne_eqb _ 0 c.if-call-eq0.false, ne_eqb _ 1 c.if-call-eq1.false, le-ltb _ 6 c.if-call-lt6.false, le-ltb _ 8 c.if-call-lt8.false, le-ltb _ 10 c.if-call-lt10.false, ne_eqb _ 10 c.if-call-eq10.false, ne_eqb _ 41 c.if-call-eq41.false, ne_eqb _ 42 c.if-call-eq42.false, eq-eqb _ 43 c.if-call-eq43.true) c.set_tool.ensures
+returns-in-42 c = let n = c.call-call.result in rw (← c.call-call.ensures.0, ne_eqb n 0 (omega arith), ne_eqb n 1 (omega arith), le-ltb n 6 (omega arith), le-ltb n 8 (omega arith), le-ltb n 10 (omega arith), ne_eqb n 10 (omega arith), ne_eqb n 41 (omega arith), eq-eqb n 42 (c.in-42.is)) c.set_weights.ensures
 
-pub returns-then-call-lt44 : goal.returns-then-call-lt44
+pub returns-in-43 : goal.returns-in-43
 unfolding record_agrees call_agrees
-returns-then-call-lt44 c = rw (← c.number_at-call.ensures.0, ne_eqb _ 0 c.if-call-eq0.false, ne_eqb _ 1 c.if-call-eq1.false, le-ltb _ 6 c.if-call-lt6.false, le-ltb _ 8 c.if-call-lt8.false, le-ltb _ 10 c.if-call-lt10.false, ne_eqb _ 10 c.if-call-eq10.false, ne_eqb _ 41 c.if-call-eq41.false, ne_eqb _ 42 c.if-call-eq42.false, ne_eqb _ 43 c.if-call-eq43.false, lt-ltb _ 44 c.if-call-lt44.true) c.leaf.ensures
+returns-in-43 c = let n = c.call-call.result in rw (← c.call-call.ensures.0, ne_eqb n 0 (omega arith), ne_eqb n 1 (omega arith), le-ltb n 6 (omega arith), le-ltb n 8 (omega arith), le-ltb n 10 (omega arith), ne_eqb n 10 (omega arith), ne_eqb n 41 (omega arith), ne_eqb n 42 (omega arith), eq-eqb n 43 (c.in-43.is)) c.set_tool.ensures
 
-pub returns : goal.returns
+pub returns-in_default : goal.returns-in_default
 unfolding record_agrees call_agrees
-returns c = rw (← c.number_at-call.ensures.0, ne_eqb _ 0 c.if-call-eq0.false, ne_eqb _ 1 c.if-call-eq1.false, le-ltb _ 6 c.if-call-lt6.false, le-ltb _ 8 c.if-call-lt8.false, le-ltb _ 10 c.if-call-lt10.false, ne_eqb _ 10 c.if-call-eq10.false, ne_eqb _ 41 c.if-call-eq41.false, ne_eqb _ 42 c.if-call-eq42.false, ne_eqb _ 43 c.if-call-eq43.false, le-ltb _ 44 c.if-call-lt44.false) c.leaf-2.ensures
+returns-in_default c = let n = c.call-call.result in rw (← c.call-call.ensures.0, ne_eqb n 0 (omega arith), ne_eqb n 1 (omega arith), le-ltb n 6 (omega arith), le-ltb n 8 (omega arith), le-ltb n 10 (omega arith), ne_eqb n 10 (omega arith), ne_eqb n 41 (omega arith), ne_eqb n 42 (omega arith), ne_eqb n 43 (omega arith), le-ltb n 44 (omega arith)) c.leaf-in_default.ensures

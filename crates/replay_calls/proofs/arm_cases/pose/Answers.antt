@@ -1,7 +1,6 @@
 -- `pose` meets its contract: the call is lent the record's lists, and outputs that are filled.
 use mathlib.Core.Path.{ap, ◌∙◌}
 use mathlib.Core.List.{[], ◌∷◌}
-use native.Mathlib.Omega.{arith}
 use Rattle.lent_bytes.specs.Lent.{numbers_in, floats_in, room_in, bytes_of}
 use Rattle.lent_bytes.specs.SheetLists.{same-three, same-sheet}
 use Rattle.lent_bytes.specs.ToolLists.{tools_from}
@@ -13,43 +12,13 @@ use Rattle.replay_calls.specs.Table.{pose_outputs}
 use Rattle.replay_calls.specs.Arms.{pose_agrees}
 use Rattle.replay_calls.proofs.arm_cases.pose.Goals as goal
 
-pub list-requires : goal.list-requires
-list-requires c = (c.requires.at_bound, omega arith)
-
-pub list-requires-2 : goal.list-requires-2
-list-requires-2 c = (c.requires.at_bound, omega arith)
-
-pub list-requires-3 : goal.list-requires-3
-list-requires-3 c = (c.requires.at_bound, omega arith)
-
-pub list-requires-4 : goal.list-requires-4
-list-requires-4 c = (c.requires.at_bound, omega arith)
-
-pub list-requires-5 : goal.list-requires-5
-list-requires-5 c = (c.requires.at_bound, omega arith)
-
-pub list-requires-6 : goal.list-requires-6
-list-requires-6 c = (c.requires.at_bound, omega arith)
-
-pub list-requires-7 : goal.list-requires-7
-list-requires-7 c = (c.requires.at_bound, omega arith)
-
-pub list-requires-8 : goal.list-requires-8
-list-requires-8 c = (c.requires.at_bound, omega arith)
-
-pub list-requires-9 : goal.list-requires-9
-list-requires-9 c = (c.requires.at_bound, omega arith)
-
-pub one-requires : goal.one-requires
-one-requires c = (c.requires.at_bound, omega arith)
-
 pub returns : goal.returns
 unfolding pose_agrees
 returns c =
-    let o = list_of c.args.s.now c.args.at in
+    let o = list_of c.args.r.s.now c.args.r.at in
     let z = same-sheet (ap (numbers_in 5) c.list.ensures.0) (ap (numbers_in 64) c.list-2.ensures.0) (ap (floats_in 448) c.list-3.ensures.0) (ap (floats_in 32) c.list-4.ensures.0) in
     let t = same-four tools_from c.list-5.ensures.0 c.list-6.ensures.0 c.list-7.ensures.0 c.list-8.ensures.0 in
     let x = ap (floats_in 16) c.list-9.ensures.0 in
-    let n = c.pose-number.ensures.number ∙ same-four pose_number z t x (ap room_in (filled-length (o pose_outputs) c.requires.ends_value)) in
-    c.one.ensures ∙ same_answer _ _ pose_outputs n (ap (λ a. a ∷ [])
-    (c.pose-number.ensures.ends ∙ left-written (o pose_outputs) n c.requires.ends_value (ap bytes_of (same-three end_poses z t x))))
+    let n = c.pose-number.ensures.number ∙ same-four pose_number z t x (ap room_in (filled-length (o pose_outputs) c.requires)) in
+    c.agrees.ensures ∙ same_answer _ _ pose_outputs n (ap (λ a. a ∷ [])
+    (c.pose-number.ensures.ends ∙ left-written (o pose_outputs) n c.requires (ap bytes_of (same-three end_poses z t x))))

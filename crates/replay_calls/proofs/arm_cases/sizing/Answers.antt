@@ -1,7 +1,6 @@
 -- `sizing` meets its contract: the call is lent the record's lists, and an output that is filled.
 use mathlib.Core.Path.{ap, ◌∙◌}
 use mathlib.Core.List.{[], ◌∷◌}
-use native.Mathlib.Omega.{arith}
 use Rattle.lent_bytes.specs.Lent.{numbers_in, floats_in, number_room_in, bytes_of_numbers}
 use Rattle.lent_bytes.specs.Picks.{picks_from}
 use Rattle.lent_bytes.specs.SheetLists.{same-three}
@@ -13,29 +12,14 @@ use Rattle.replay_calls.specs.Table.{plan_output}
 use Rattle.replay_calls.specs.Arms.{sizing_agrees}
 use Rattle.replay_calls.proofs.arm_cases.sizing.Goals as goal
 
-pub list_number-strict-requires : goal.list_number-strict-requires
-list_number-strict-requires c = (c.requires.at_bound, omega arith)
-
-pub list-requires : goal.list-requires
-list-requires c = (c.requires.at_bound, omega arith)
-
-pub list-requires-2 : goal.list-requires-2
-list-requires-2 c = (c.requires.at_bound, omega arith)
-
-pub list-requires-3 : goal.list-requires-3
-list-requires-3 c = (c.requires.at_bound, omega arith)
-
-pub one-requires : goal.one-requires
-one-requires c = (c.requires.at_bound, omega arith)
-
 pub returns : goal.returns
 unfolding sizing_agrees
 returns c =
-    let o = list_of c.args.s.now c.args.at in
+    let o = list_of c.args.r.s.now c.args.r.at in
     let z = ap (numbers_in 5) c.list.ensures.0 in
     let k = ap (numbers_in 64) c.list-2.ensures.0 in
     let f = ap (floats_in 448) c.list-3.ensures.0 in
     let p = ap picks_from c.list_number-strict.ensures in
-    let n = c.sizing-number.ensures.number ∙ same-four sizing_number z k f (ap number_room_in (filled-length (o plan_output) c.requires.plan_value)) in
-    c.one.ensures ∙ same_answer _ _ plan_output n (ap (λ a. a ∷ [])
-    (c.sizing-number.ensures.plan ∙ left-written (o plan_output) n c.requires.plan_value (ap bytes_of_numbers (same-three plan_numbers p z k))))
+    let n = c.sizing-number.ensures.number ∙ same-four sizing_number z k f (ap number_room_in (filled-length (o plan_output) c.requires)) in
+    c.agrees.ensures ∙ same_answer _ _ plan_output n (ap (λ a. a ∷ [])
+    (c.sizing-number.ensures.plan ∙ left-written (o plan_output) n c.requires (ap bytes_of_numbers (same-three plan_numbers p z k))))

@@ -1,7 +1,6 @@
 -- `update` meets its contract: the call is lent the record's lists, and outputs that are filled.
 use mathlib.Core.Path.{ap, ◌∙◌}
 use mathlib.Core.List.{[], ◌∷◌}
-use native.Mathlib.Omega.{arith}
 use Rattle.lent_bytes.specs.Lent.{numbers_in, floats_in, room_in, bytes_of}
 use Rattle.lent_bytes.specs.SheetLists.{same-two, same-sheet}
 use Rattle.arm_bytes.specs.ArmCalls.{update_number, updated_blocks}
@@ -12,34 +11,13 @@ use Rattle.replay_calls.specs.Table.{update_output}
 use Rattle.replay_calls.specs.Arms.{update_agrees}
 use Rattle.replay_calls.proofs.arm_cases.update.Goals as goal
 
-pub list-requires : goal.list-requires
-list-requires c = (c.requires.at_bound, omega arith)
-
-pub list-requires-2 : goal.list-requires-2
-list-requires-2 c = (c.requires.at_bound, omega arith)
-
-pub list-requires-3 : goal.list-requires-3
-list-requires-3 c = (c.requires.at_bound, omega arith)
-
-pub list-requires-4 : goal.list-requires-4
-list-requires-4 c = (c.requires.at_bound, omega arith)
-
-pub list-requires-5 : goal.list-requires-5
-list-requires-5 c = (c.requires.at_bound, omega arith)
-
-pub list-requires-6 : goal.list-requires-6
-list-requires-6 c = (c.requires.at_bound, omega arith)
-
-pub one-requires : goal.one-requires
-one-requires c = (c.requires.at_bound, omega arith)
-
 pub returns : goal.returns
 unfolding update_agrees
 returns c =
-    let o = list_of c.args.s.now c.args.at in
+    let o = list_of c.args.r.s.now c.args.r.at in
     let z = same-sheet (ap (numbers_in 5) c.list.ensures.0) (ap (numbers_in 64) c.list-2.ensures.0) (ap (floats_in 448) c.list-3.ensures.0) (ap (floats_in 32) c.list-4.ensures.0) in
     let h = ap (floats_in 64) c.list-5.ensures.0 in
     let x = ap (floats_in 16) c.list-6.ensures.0 in
-    let n = c.update-number.ensures.number ∙ same-four update_number z h x (ap room_in (filled-length (o update_output) c.requires.new_history_value)) in
-    c.one.ensures ∙ same_answer _ _ update_output n (ap (λ a. a ∷ [])
-    (c.update-number.ensures.new_history ∙ left-written (o update_output) n c.requires.new_history_value (ap bytes_of (same-two updated_blocks h x))))
+    let n = c.update-number.ensures.number ∙ same-four update_number z h x (ap room_in (filled-length (o update_output) c.requires)) in
+    c.agrees.ensures ∙ same_answer _ _ update_output n (ap (λ a. a ∷ [])
+    (c.update-number.ensures.new_history ∙ left-written (o update_output) n c.requires (ap bytes_of (same-two updated_blocks h x))))

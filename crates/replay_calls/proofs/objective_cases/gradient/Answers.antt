@@ -2,7 +2,6 @@
 use mathlib.Core.Path.{ap, ◌∙◌}
 use mathlib.Core.List.{[], ◌∷◌}
 use Prim.Native.Nat.{ℕ, ◌+◌}
-use native.Mathlib.Omega.{arith}
 use Rattle.lent_bytes.specs.Lent.{numbers_in, floats_in, room_in, bytes_of}
 use Rattle.lent_bytes.specs.SheetLists.{same-three, same-sheet}
 use Rattle.lent_bytes.specs.Picks.{picks_from}
@@ -15,59 +14,17 @@ use Rattle.replay_calls.specs.Table.{objective_outputs}
 use Rattle.replay_calls.specs.Objectives.{gradient_agrees}
 use Rattle.replay_calls.proofs.objective_cases.gradient.Goals as goal
 
-pub list_number-strict-requires : goal.list_number-strict-requires
-list_number-strict-requires c = (c.requires.at_bound, omega arith)
-
-pub list-requires : goal.list-requires
-list-requires c = (c.requires.at_bound, omega arith)
-
-pub list-requires-2 : goal.list-requires-2
-list-requires-2 c = (c.requires.at_bound, omega arith)
-
-pub list-requires-3 : goal.list-requires-3
-list-requires-3 c = (c.requires.at_bound, omega arith)
-
-pub list-requires-4 : goal.list-requires-4
-list-requires-4 c = (c.requires.at_bound, omega arith)
-
-pub list-requires-5 : goal.list-requires-5
-list-requires-5 c = (c.requires.at_bound, omega arith)
-
-pub list-requires-6 : goal.list-requires-6
-list-requires-6 c = (c.requires.at_bound, omega arith)
-
-pub list-requires-7 : goal.list-requires-7
-list-requires-7 c = (c.requires.at_bound, omega arith)
-
-pub list-requires-8 : goal.list-requires-8
-list-requires-8 c = (c.requires.at_bound, omega arith)
-
-pub list-requires-9 : goal.list-requires-9
-list-requires-9 c = (c.requires.at_bound, omega arith)
-
-pub list-requires-10 : goal.list-requires-10
-list-requires-10 c = (c.requires.at_bound, omega arith)
-
-pub list-requires-11 : goal.list-requires-11
-list-requires-11 c = (c.requires.at_bound, omega arith)
-
-pub list-requires-12 : goal.list-requires-12
-list-requires-12 c = (c.requires.at_bound, omega arith)
-
-pub three-requires : goal.three-requires
-three-requires c = (c.requires.at_bound, omega arith)
-
 pub returns : goal.returns
 unfolding gradient_agrees
 returns c =
-    let o = list_of c.args.s.now c.args.at in
+    let o = list_of c.args.r.s.now c.args.r.at in
     let z = same-sheet (ap (numbers_in 5) c.list.ensures.0) (ap (numbers_in 64) c.list-2.ensures.0) (ap (floats_in 448) c.list-3.ensures.0) (ap (floats_in 32) c.list-4.ensures.0) in
     let k = same-four tools_from c.list-8.ensures.0 c.list-9.ensures.0 c.list-10.ensures.0 c.list-11.ensures.0 in
     let t = same-four task_from c.list-5.ensures.0 c.list-6.ensures.0 c.list-7.ensures.0 k in
     let x = ap (floats_in 16) c.list-12.ensures.0 in
     let p = ap picks_from c.list_number-strict.ensures in
-    let n = c.gradient-number.ensures.number ∙ same-four (λ (f : ℕ → ℕ → ℕ → ℕ) a b c. f a b c) (same-three slopes_number z t x) (ap room_in (filled-length (o objective_outputs) c.requires.scratch_value.0)) (ap room_in (filled-length (o (objective_outputs + 1)) c.requires.scratch_value.1)) (ap room_in (filled-length (o (objective_outputs + 2)) c.requires.scratch_value.2)) in
-    c.three.ensures ∙ same_answer _ _ objective_outputs n (same-three (λ a b c. a ∷ b ∷ c ∷ [])
-    (c.gradient-number.ensures.scratch ∙ left-written (o objective_outputs) n c.requires.scratch_value.0 (ap bytes_of x))
-    (c.gradient-number.ensures.value ∙ left-written (o (objective_outputs + 1)) n c.requires.scratch_value.1 (ap bytes_of (same-four objective_value z t p x)))
-    (c.gradient-number.ensures.slopes ∙ left-written (o (objective_outputs + 2)) n c.requires.scratch_value.2 (ap bytes_of (same-four gradient_slopes z t p x))))
+    let n = c.gradient-number.ensures.number ∙ same-four (λ (f : ℕ → ℕ → ℕ → ℕ) a b c. f a b c) (same-three slopes_number z t x) (ap room_in (filled-length (o objective_outputs) c.requires.0)) (ap room_in (filled-length (o (objective_outputs + 1)) c.requires.1)) (ap room_in (filled-length (o (objective_outputs + 2)) c.requires.2)) in
+    c.agrees.ensures ∙ same_answer _ _ objective_outputs n (same-three (λ a b c. a ∷ b ∷ c ∷ [])
+    (c.gradient-number.ensures.scratch ∙ left-written (o objective_outputs) n c.requires.0 (ap bytes_of x))
+    (c.gradient-number.ensures.value ∙ left-written (o (objective_outputs + 1)) n c.requires.1 (ap bytes_of (same-four objective_value z t p x)))
+    (c.gradient-number.ensures.slopes ∙ left-written (o (objective_outputs + 2)) n c.requires.2 (ap bytes_of (same-four gradient_slopes z t p x))))

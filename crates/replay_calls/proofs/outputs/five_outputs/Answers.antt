@@ -25,16 +25,10 @@ slice_bounds-gradient_one_block-end-5 c = sym (length-take-le _ _ (omega (arith,
 
 pub gradient_one_block-requires : goal.gradient_one_block-requires
 gradient_one_block-requires c =
-    let o = list_of c.args.s.now c.args.at in record {
-      at_bound = c.requires;
-      value_value = (
-        front-filled (o objective_outputs) _ 65536 c.buffer-a.ensures.0 c.room-k.ensures.0 (omega (arith, c.room-k.ensures.1)),
-        front-filled (o (objective_outputs + 1)) _ 65536 c.buffer-b.ensures.0 c.room-l.ensures.0 (omega (arith, c.room-l.ensures.1)),
-        front-filled (o (objective_outputs + 2)) _ 65536 c.buffer-c.ensures.0 c.room-m.ensures.0 (omega (arith, c.room-m.ensures.1)),
-        front-filled (o (objective_outputs + 3)) _ 65536 c.buffer-d.ensures.0 c.room-n.ensures.0 (omega (arith, c.room-n.ensures.1)),
-        front-filled (o (objective_outputs + 4)) _ 65536 c.buffer-e.ensures.0 c.room-o.ensures.0 (omega (arith, c.room-o.ensures.1)),
-      );
-    }
-
-pub returns : goal.returns
-returns c = c.gradient_one_block.ensures
+    let o = list_of c.args.r.s.now c.args.r.at in (
+      front-filled (o objective_outputs) _ 65536 c.buffer-a.ensures.0 c.room-k.ensures.0 (omega (arith, c.room-k.ensures.1)),
+      front-filled (o (objective_outputs + 1)) _ 65536 c.buffer-b.ensures.0 c.room-l.ensures.0 (omega (arith, c.room-l.ensures.1)),
+      front-filled (o (objective_outputs + 2)) _ 65536 c.buffer-c.ensures.0 c.room-m.ensures.0 (omega (arith, c.room-m.ensures.1)),
+      front-filled (o (objective_outputs + 3)) _ 65536 c.buffer-d.ensures.0 c.room-n.ensures.0 (omega (arith, c.room-n.ensures.1)),
+      front-filled (o (objective_outputs + 4)) _ 65536 c.buffer-e.ensures.0 c.room-o.ensures.0 (omega (arith, c.room-o.ensures.1)),
+    )

@@ -17,11 +17,8 @@ slice_bounds-pose-end c = sym (length-take-le _ _ (omega (arith, c.room-n.ensure
 pub pose-requires : goal.pose-requires
 unfolding outputs_from
 pose-requires c =
-    record {
-      at_bound = c.requires.at_bound;
-      ends_value = front-filled (list_of c.args.s.now c.args.at pose_outputs) _ 65536 c.buffer-a.ensures.0
-          (c.room-n.ensures.0 ∙ ap (λ (k : ℕ). length (list_of c.args.s.now c.args.at k)) (c.outputs_from.ensures.0 ∙ ap outputs_from c.in-2.is)) (omega (arith, c.room-n.ensures.1));
-    }
+    front-filled (list_of c.args.r.s.now c.args.r.at pose_outputs) _ 65536 c.buffer-a.ensures.0
+    (c.room-n.ensures.0 ∙ ap (λ (k : ℕ). length (list_of c.args.r.s.now c.args.r.at k)) (c.outputs_from.ensures.0 ∙ ap outputs_from c.in-2.is)) (omega (arith, c.room-n.ensures.1))
 
 pub returns-in-2 : goal.returns-in-2
 unfolding one_agrees
@@ -33,11 +30,8 @@ slice_bounds-manipulability-end c = sym (length-take-le _ _ (omega (arith, c.roo
 pub manipulability-requires : goal.manipulability-requires
 unfolding outputs_from
 manipulability-requires c =
-    record {
-      at_bound = c.requires.at_bound;
-      value_value = front-filled (list_of c.args.s.now c.args.at arm_outputs) _ 65536 c.buffer-a.ensures.0
-          (c.room-n.ensures.0 ∙ ap (λ (k : ℕ). length (list_of c.args.s.now c.args.at k)) (c.outputs_from.ensures.0 ∙ ap outputs_from c.in-3.is)) (omega (arith, c.room-n.ensures.1));
-    }
+    front-filled (list_of c.args.r.s.now c.args.r.at arm_outputs) _ 65536 c.buffer-a.ensures.0
+    (c.room-n.ensures.0 ∙ ap (λ (k : ℕ). length (list_of c.args.r.s.now c.args.r.at k)) (c.outputs_from.ensures.0 ∙ ap outputs_from c.in-3.is)) (omega (arith, c.room-n.ensures.1))
 
 pub returns-in-3 : goal.returns-in-3
 unfolding one_agrees
@@ -49,11 +43,8 @@ slice_bounds-update-end c = sym (length-take-le _ _ (omega (arith, c.room-n.ensu
 pub update-requires : goal.update-requires
 unfolding outputs_from
 update-requires c =
-    record {
-      at_bound = c.requires.at_bound;
-      new_history_value = front-filled (list_of c.args.s.now c.args.at update_output) _ 65536 c.buffer-a.ensures.0
-          (c.room-n.ensures.0 ∙ ap (λ (k : ℕ). length (list_of c.args.s.now c.args.at k)) (c.outputs_from.ensures.0 ∙ ap outputs_from c.in-4.is)) (omega (arith, c.room-n.ensures.1));
-    }
+    front-filled (list_of c.args.r.s.now c.args.r.at update_output) _ 65536 c.buffer-a.ensures.0
+    (c.room-n.ensures.0 ∙ ap (λ (k : ℕ). length (list_of c.args.r.s.now c.args.r.at k)) (c.outputs_from.ensures.0 ∙ ap outputs_from c.in-4.is)) (omega (arith, c.room-n.ensures.1))
 
 pub returns-in-4 : goal.returns-in-4
 unfolding one_agrees
@@ -65,12 +56,9 @@ slice_bounds-objective-end c = sym (length-take-le _ _ (omega (arith, c.room-n.e
 pub objective-requires : goal.objective-requires
 unfolding outputs_from
 objective-requires c =
-    let n : c.args.call ≡ 5 = omega (arith, c.requires.le_call) in
-    let k : outputs_from c.args.call ≡ objective_outputs = ap outputs_from n in record {
-      at_bound = c.requires.at_bound;
-      value_value = front-filled (list_of c.args.s.now c.args.at objective_outputs) _ 65536 c.buffer-a.ensures.0
-          (c.room-n.ensures.0 ∙ ap (λ (k : ℕ). length (list_of c.args.s.now c.args.at k)) (c.outputs_from.ensures.0 ∙ k)) (omega (arith, c.room-n.ensures.1));
-    }
+    let n : c.args.call ≡ 5 = omega (arith, c.requires) in
+    let k : outputs_from c.args.call ≡ objective_outputs = ap outputs_from n in front-filled (list_of c.args.r.s.now c.args.r.at objective_outputs) _ 65536 c.buffer-a.ensures.0
+    (c.room-n.ensures.0 ∙ ap (λ (k : ℕ). length (list_of c.args.r.s.now c.args.r.at k)) (c.outputs_from.ensures.0 ∙ k)) (omega (arith, c.room-n.ensures.1))
 
 pub returns-in_default : goal.returns-in_default
 unfolding one_agrees

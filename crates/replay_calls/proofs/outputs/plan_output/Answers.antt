@@ -12,10 +12,4 @@ slice_bounds-sizing-end c = sym (length-take-le _ _ (omega (arith, c.room-n.ensu
 
 pub sizing-requires : goal.sizing-requires
 sizing-requires c =
-    record {
-      at_bound = c.requires;
-      plan_value = front-filled (list_of c.args.s.now c.args.at plan_output) _ 65536 c.buffer-a.ensures.0 c.room-n.ensures.0 (omega (arith, c.room-n.ensures.1));
-    }
-
-pub returns : goal.returns
-returns c = c.sizing.ensures
+    front-filled (list_of c.args.r.s.now c.args.r.at plan_output) _ 65536 c.buffer-a.ensures.0 c.room-n.ensures.0 (omega (arith, c.room-n.ensures.1))

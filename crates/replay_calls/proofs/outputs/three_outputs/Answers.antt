@@ -21,14 +21,11 @@ slice_bounds-gradient-end-then-call-eq8-2 c = sym (length-take-le _ _ (omega (ar
 
 pub gradient-requires : goal.gradient-requires
 gradient-requires c =
-    let o = list_of c.args.s.now c.args.at in record {
-      at_bound = c.requires;
-      scratch_value = (
-        front-filled (o objective_outputs) _ 65536 c.buffer-a.ensures.0 c.room-l.ensures.0 (omega (arith, c.room-l.ensures.1)),
-        front-filled (o (objective_outputs + 1)) _ 65536 c.buffer-b.ensures.0 c.room-m.ensures.0 (omega (arith, c.room-m.ensures.1)),
-        front-filled (o (objective_outputs + 2)) _ 65536 c.buffer-c.ensures.0 c.room-n.ensures.0 (omega (arith, c.room-n.ensures.1)),
-      );
-    }
+    let o = list_of c.args.r.s.now c.args.r.at in (
+      front-filled (o objective_outputs) _ 65536 c.buffer-a.ensures.0 c.room-l.ensures.0 (omega (arith, c.room-l.ensures.1)),
+      front-filled (o (objective_outputs + 1)) _ 65536 c.buffer-b.ensures.0 c.room-m.ensures.0 (omega (arith, c.room-m.ensures.1)),
+      front-filled (o (objective_outputs + 2)) _ 65536 c.buffer-c.ensures.0 c.room-n.ensures.0 (omega (arith, c.room-n.ensures.1)),
+    )
 
 pub returns-then-call-eq8 : goal.returns-then-call-eq8
 unfolding three_agree
@@ -45,14 +42,11 @@ slice_bounds-gradient_finite_diff-end-3 c = sym (length-take-le _ _ (omega (arit
 
 pub gradient_finite_diff-requires : goal.gradient_finite_diff-requires
 gradient_finite_diff-requires c =
-    let o = list_of c.args.s.now c.args.at in record {
-      at_bound = c.requires;
-      scratch_value = (
-        front-filled (o objective_outputs) _ 65536 c.buffer-a.ensures.0 c.room-l.ensures.0 (omega (arith, c.room-l.ensures.1)),
-        front-filled (o (objective_outputs + 1)) _ 65536 c.buffer-b.ensures.0 c.room-m.ensures.0 (omega (arith, c.room-m.ensures.1)),
-        front-filled (o (objective_outputs + 2)) _ 65536 c.buffer-c.ensures.0 c.room-n.ensures.0 (omega (arith, c.room-n.ensures.1)),
-      );
-    }
+    let o = list_of c.args.r.s.now c.args.r.at in (
+      front-filled (o objective_outputs) _ 65536 c.buffer-a.ensures.0 c.room-l.ensures.0 (omega (arith, c.room-l.ensures.1)),
+      front-filled (o (objective_outputs + 1)) _ 65536 c.buffer-b.ensures.0 c.room-m.ensures.0 (omega (arith, c.room-m.ensures.1)),
+      front-filled (o (objective_outputs + 2)) _ 65536 c.buffer-c.ensures.0 c.room-n.ensures.0 (omega (arith, c.room-n.ensures.1)),
+    )
 
 pub returns : goal.returns
 unfolding three_agree

@@ -20,14 +20,11 @@ slice_bounds-frames-end-in-6 c = sym (length-take-le _ _ (omega (arith, c.room-n
 pub frames-requires : goal.frames-requires
 unfolding outputs_from
 frames-requires c =
-    let o = list_of c.args.s.now c.args.at in
-    let k = c.outputs_from-k.ensures.0 ∙ ap outputs_from c.in-6.is in record {
-      at_bound = c.requires.at_bound;
-      positions_value = (
-        front-filled (o arm_outputs) _ 65536 c.buffer-a.ensures.0 (c.room-m.ensures.0 ∙ ap (λ (k : ℕ). length (o k)) k) (omega (arith, c.room-m.ensures.1)),
-        front-filled (o (arm_outputs + 1)) _ 65536 c.buffer-b.ensures.0 (c.room-n.ensures.0 ∙ ap (λ (k : ℕ). length (o (k + 1))) k) (omega (arith, c.room-n.ensures.1)),
-      );
-    }
+    let o = list_of c.args.r.s.now c.args.r.at in
+    let k = c.outputs_from-k.ensures.0 ∙ ap outputs_from c.in-6.is in (
+      front-filled (o arm_outputs) _ 65536 c.buffer-a.ensures.0 (c.room-m.ensures.0 ∙ ap (λ (k : ℕ). length (o k)) k) (omega (arith, c.room-m.ensures.1)),
+      front-filled (o (arm_outputs + 1)) _ 65536 c.buffer-b.ensures.0 (c.room-n.ensures.0 ∙ ap (λ (k : ℕ). length (o (k + 1))) k) (omega (arith, c.room-n.ensures.1)),
+    )
 
 pub returns-in-6 : goal.returns-in-6
 unfolding two_agree
@@ -42,15 +39,12 @@ slice_bounds-reset-end-in_default c = sym (length-take-le _ _ (omega (arith, c.r
 pub reset-requires : goal.reset-requires
 unfolding outputs_from
 reset-requires c =
-    let o = list_of c.args.s.now c.args.at in
-    let n : c.args.call ≡ 7 = omega (arith, c.requires.le_call) in
-    let k = c.outputs_from-k.ensures.0 ∙ ap outputs_from n in record {
-      at_bound = c.requires.at_bound;
-      history_value = (
-        front-filled (o pose_outputs) _ 65536 c.buffer-a.ensures.0 (c.room-m.ensures.0 ∙ ap (λ (k : ℕ). length (o k)) k) (omega (arith, c.room-m.ensures.1)),
-        front-filled (o (pose_outputs + 1)) _ 65536 c.buffer-b.ensures.0 (c.room-n.ensures.0 ∙ ap (λ (k : ℕ). length (o (k + 1))) k) (omega (arith, c.room-n.ensures.1)),
-      );
-    }
+    let o = list_of c.args.r.s.now c.args.r.at in
+    let n : c.args.call ≡ 7 = omega (arith, c.requires) in
+    let k = c.outputs_from-k.ensures.0 ∙ ap outputs_from n in (
+      front-filled (o pose_outputs) _ 65536 c.buffer-a.ensures.0 (c.room-m.ensures.0 ∙ ap (λ (k : ℕ). length (o k)) k) (omega (arith, c.room-m.ensures.1)),
+      front-filled (o (pose_outputs + 1)) _ 65536 c.buffer-b.ensures.0 (c.room-n.ensures.0 ∙ ap (λ (k : ℕ). length (o (k + 1))) k) (omega (arith, c.room-n.ensures.1)),
+    )
 
 pub returns-in_default : goal.returns-in_default
 unfolding two_agree

@@ -1,37 +1,37 @@
--- `outputs` meets its contract: by the tests of the call's number.
+-- `outputs` meets its contract: by the call's number.
 use native.Mathlib.Omega.{arith}
 use borrow.Author.Tests.{lt-ltb, le-ltb, eq-eqb, ne_eqb}
 use Rattle.replay_calls.specs.Table.{outputs_of}
 use Rattle.replay_calls.proofs.table.outputs.Goals as goal
 
-pub returns-then-call-lt2 : goal.returns-then-call-lt2
+pub returns-in-0-to-1 : goal.returns-in-0-to-1
 unfolding outputs_of
-returns-then-call-lt2 c = (rw (lt-ltb _ 2 c.if-call-lt2.true), omega arith)
+returns-in-0-to-1 c = let n = c.args.call in (rw (lt-ltb n 2 (omega arith)), omega arith)
 
-pub returns-then-call-lt6 : goal.returns-then-call-lt6
+pub returns-in-2-to-5 : goal.returns-in-2-to-5
 unfolding outputs_of
-returns-then-call-lt6 c = (rw (le-ltb _ 2 c.if-call-lt2.false, lt-ltb _ 6 c.if-call-lt6.true), omega arith)
+returns-in-2-to-5 c = let n = c.args.call in (rw (le-ltb n 2 (omega arith), lt-ltb n 6 (omega arith)), omega arith)
 
-pub returns-then-call-lt8 : goal.returns-then-call-lt8
+pub returns-in-6-to-7 : goal.returns-in-6-to-7
 unfolding outputs_of
-returns-then-call-lt8 c = (rw (le-ltb _ 2 c.if-call-lt2.false, le-ltb _ 6 c.if-call-lt6.false, lt-ltb _ 8 c.if-call-lt8.true), omega arith)
+returns-in-6-to-7 c = let n = c.args.call in (rw (le-ltb n 2 (omega arith), le-ltb n 6 (omega arith), lt-ltb n 8 (omega arith)), omega arith)
 
-pub returns-then-call-lt10 : goal.returns-then-call-lt10
+pub returns-in-8-to-9 : goal.returns-in-8-to-9
 unfolding outputs_of
-returns-then-call-lt10 c = (rw (le-ltb _ 2 c.if-call-lt2.false, le-ltb _ 6 c.if-call-lt6.false, le-ltb _ 8 c.if-call-lt8.false, lt-ltb _ 10 c.if-call-lt10.true), omega arith)
+returns-in-8-to-9 c = let n = c.args.call in (rw (le-ltb n 2 (omega arith), le-ltb n 6 (omega arith), le-ltb n 8 (omega arith), lt-ltb n 10 (omega arith)), omega arith)
 
-pub returns-then-call-eq10 : goal.returns-then-call-eq10
+pub returns-in-10 : goal.returns-in-10
 unfolding outputs_of
-returns-then-call-eq10 c = (rw (le-ltb _ 2 c.if-call-lt2.false, le-ltb _ 6 c.if-call-lt6.false, le-ltb _ 8 c.if-call-lt8.false, le-ltb _ 10 c.if-call-lt10.false, eq-eqb _ 10 c.if-call-eq10.true), omega arith)
+returns-in-10 c = let n = c.args.call in (rw (le-ltb n 2 (omega arith), le-ltb n 6 (omega arith), le-ltb n 8 (omega arith), le-ltb n 10 (omega arith), eq-eqb n 10 (c.in-10.is)), omega arith)
 
-pub returns-then-call-lt42 : goal.returns-then-call-lt42
+pub returns-in-11-to-41 : goal.returns-in-11-to-41
 unfolding outputs_of
-returns-then-call-lt42 c = (rw (le-ltb _ 2 c.if-call-lt2.false, le-ltb _ 6 c.if-call-lt6.false, le-ltb _ 8 c.if-call-lt8.false, le-ltb _ 10 c.if-call-lt10.false, ne_eqb _ 10 c.if-call-eq10.false, lt-ltb _ 42 c.if-call-lt42.true), omega arith)
+returns-in-11-to-41 c = let n = c.args.call in (rw (le-ltb n 2 (omega arith), le-ltb n 6 (omega arith), le-ltb n 8 (omega arith), le-ltb n 10 (omega arith), ne_eqb n 10 (omega arith), lt-ltb n 42 (omega arith)), omega arith)
 
-pub returns-then-call-lt44 : goal.returns-then-call-lt44
+pub returns-in-42-to-43 : goal.returns-in-42-to-43
 unfolding outputs_of
-returns-then-call-lt44 c = (rw (le-ltb _ 2 c.if-call-lt2.false, le-ltb _ 6 c.if-call-lt6.false, le-ltb _ 8 c.if-call-lt8.false, le-ltb _ 10 c.if-call-lt10.false, ne_eqb _ 10 c.if-call-eq10.false, le-ltb _ 42 c.if-call-lt42.false, lt-ltb _ 44 c.if-call-lt44.true), omega arith)
+returns-in-42-to-43 c = let n = c.args.call in (rw (le-ltb n 2 (omega arith), le-ltb n 6 (omega arith), le-ltb n 8 (omega arith), le-ltb n 10 (omega arith), ne_eqb n 10 (omega arith), le-ltb n 42 (omega arith), lt-ltb n 44 (omega arith)), omega arith)
 
-pub returns-else-call-lt44 : goal.returns-else-call-lt44
+pub returns-in_default : goal.returns-in_default
 unfolding outputs_of
-returns-else-call-lt44 c = (rw (le-ltb _ 2 c.if-call-lt2.false, le-ltb _ 6 c.if-call-lt6.false, le-ltb _ 8 c.if-call-lt8.false, le-ltb _ 10 c.if-call-lt10.false, ne_eqb _ 10 c.if-call-eq10.false, le-ltb _ 42 c.if-call-lt42.false, le-ltb _ 44 c.if-call-lt44.false), omega arith)
+returns-in_default c = let n = c.args.call in (rw (le-ltb n 2 (omega arith), le-ltb n 6 (omega arith), le-ltb n 8 (omega arith), le-ltb n 10 (omega arith), ne_eqb n 10 (omega arith), le-ltb n 42 (omega arith), le-ltb n 44 (omega arith)), omega arith)

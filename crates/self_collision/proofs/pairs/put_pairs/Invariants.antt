@@ -2,14 +2,14 @@
 use mathlib.Core.Path.{◌≡◌}
 use mathlib.Core.Bool.{Bool}
 use mathlib.Core.List.{List, map}
-use Prim.Native.Nat.{ℕ, ◌+◌, ◌-◌, ◌≤◌}
+use Prim.Native.Nat.{ℕ, ◌+◌}
 use lib.Ieee.{Float}
 use lib.ListN.{length}
 use Rattle.lists.specs.Splice.{splice}
 use Rattle.lists.specs.Runs.{runs}
 use Rattle.sheet.specs.Chain.{chain_start, joint_of}
 use Rattle.geometry.specs.declared.pose.Pose.{Pose}
-use Rattle.manipulability.specs.View.{view_of}
+use Rattle.manipulability.specs.View.{seen_by}
 use Rattle.self_collision.specs.Pairs.{chain_pairs, first_arm, chain_lengths, pair_loss}
 use Rattle.self_collision.proofs.pairs.put_pairs.Given as goal
 
@@ -17,11 +17,8 @@ use Rattle.self_collision.proofs.pairs.put_pairs.Given as goal
 abbrev losses : List ℕ → List ℕ → (ℕ → Pose) → Bool → ℕ → List Float
 losses ns cs P b c = map (pair_loss ns P b) (chain_pairs first_arm (chain_lengths ns cs) c)
 
-abbrev pub invariant-loop-c : goal.invariant-loop-c
-invariant-loop-c l =
-    let f = losses l.counts l.codes (view_of l.base l.tail l.from l.to) l.any_nan in
-    (l.c ≤ length l.counts) × (l.l ≡ chain_start l.counts l.c) × (l.joint ≡ joint_of l.codes l.l)
-    × (l.p ≡ l.at + length (runs f 0 l.c)) × (length l.out ≡ length l.initial.out) × (l.out ≡ splice l.initial.out l.at (runs f 0 l.c))
-
-abbrev pub decreases-loop-c : goal.decreases-loop-c
-decreases-loop-c l = length l.counts - l.c
+abbrev pub invariant-loop-count : goal.invariant-loop-count
+invariant-loop-count l =
+    let f = losses l.counts l.codes (seen_by l.poses) l.any_nan in
+    (l.l ≡ chain_start l.counts l.count-index) × (l.joint ≡ joint_of l.codes l.l)
+    × (l.p ≡ l.at + length (runs f 0 l.count-index)) × (l.out ≡ splice l.initial.out l.at (runs f 0 l.count-index))

@@ -12,4 +12,4 @@ pub returns : goal.returns
 returns c =
     let k = c.args.k in
     let z : k + 0 ≡ k = omega arith in
-    agrees_on _ _ _ k [] (agrees-begin _ _ k c.number-a.ensures c.number_of.ensures) (ap (λ (v : Float). bytes_of (v ∷ [])) c.value.ensures) (rw z c.floats.ensures)
+    agrees_on _ _ _ k [] (agrees-begin _ _ k c.number-a.ensures c.number_of.ensures) (ap (λ (v : Float). bytes_of (v ∷ [])) c.value.ensures) (rw z c.elements.ensures)

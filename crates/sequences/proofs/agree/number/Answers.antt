@@ -5,4 +5,4 @@ use Rattle.stored_answers.specs.Agree.{agrees-none}
 use Rattle.sequences.proofs.agree.number.Goals as goal
 
 pub returns : goal.returns
-returns c = ap (eqb c.args.number) c.number_at.ensures.0 ∙ sym (agrees-none _ _ _ 0)
+returns c = ap (eqb c.args.number) c.number.ensures.0 ∙ sym (agrees-none _ _ _ 0)

@@ -18,11 +18,11 @@ pub returns : goal.returns
 unfolding frames_agree
 returns c =
     let st = c.args.state in
-    let x = c.requires.at_bound.1 in
-    let n = c.frames-number.ensures.number ∙ same-three (frames_number_of st) x (ap length c.requires.positions_value.0) (ap length c.requires.positions_value.1) in
-    let first = agrees_on _ _ _ outputs [] (agrees-begin _ _ outputs c.number-a.ensures n)
-    (ap bytes_of (c.frames-number.ensures.positions ∙ left-same n c.requires.positions_value.0 (ap (λ (y : List Float). positions_of (links_used st.arms.sizes) (poses_of st y)) x)))
-    c.floats-b.ensures in
+    let x = c.requires.joints_value in
+    let n = c.frames-answer.ensures.number ∙ same-three (frames_number_of st) x (ap length c.requires.positions_value.0) (ap length c.requires.positions_value.1) in
+    let first = agrees_on _ _ _ outputs [] (agrees-begin _ _ outputs c.number-a.ensures (c.number_of.ensures ∙ n))
+    (ap bytes_of (c.frames-answer.ensures.positions ∙ left-same n c.requires.positions_value.0 (ap (λ (y : List Float). positions_of (links_used st.arms.sizes) (poses_of st y)) x)))
+    c.elements-b.ensures in
     agrees_on _ _ _ outputs (_ ∷ []) first
-    (ap bytes_of (c.frames-number.ensures.rotations ∙ left-same n c.requires.positions_value.1 (ap (λ (y : List Float). rotations_of (links_used st.arms.sizes) (poses_of st y)) x)))
-    c.floats.ensures
+    (ap bytes_of (c.frames-answer.ensures.rotations ∙ left-same n c.requires.positions_value.1 (ap (λ (y : List Float). rotations_of (links_used st.arms.sizes) (poses_of st y)) x)))
+    c.elements.ensures

@@ -18,9 +18,9 @@ unfolding gradient_agrees
 returns c =
     let st = c.args.state in
     let t = c.strict-strict.ensures in
-    let x = c.requires.at_bound.1 in
+    let x = c.requires.joints_value in
     let n = c.gradient-answer.ensures.number ∙ same-three (gradient_number_of st) x (ap length c.requires.scratch_value.0) (ap length c.requires.scratch_value.1) in
     let value = c.answered-a.ensures
     ∙ same_answer _ _ objective_outputs n (ap (λ (v : Float). bytes_of (v ∷ []) ∷ []) (c.gradient-answer.ensures.value ∙ same-two value_if n (same-two (objective_value_of st) t x))) in
-    let second = agrees_on _ _ _ objective_outputs (_ ∷ []) value (ap bytes_of (c.gradient-answer.ensures.scratch ∙ left-same n c.requires.scratch_value.0 x)) c.floats-b.ensures in
-    agrees_on _ _ _ objective_outputs (_ ∷ _ ∷ []) second (ap bytes_of (c.gradient-answer.ensures.slopes ∙ left-same n c.requires.scratch_value.1 (same-two (gradient_slopes_of st) t x))) c.floats.ensures
+    let second = agrees_on _ _ _ objective_outputs (_ ∷ []) value (ap bytes_of (c.gradient-answer.ensures.scratch ∙ left-same n c.requires.scratch_value.0 x)) c.elements-b.ensures in
+    agrees_on _ _ _ objective_outputs (_ ∷ _ ∷ []) second (ap bytes_of (c.gradient-answer.ensures.slopes ∙ left-same n c.requires.scratch_value.1 (same-two (gradient_slopes_of st) t x))) c.elements.ensures

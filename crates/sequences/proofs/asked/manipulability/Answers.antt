@@ -15,7 +15,7 @@ pub returns : goal.returns
 unfolding manipulability_agrees
 returns c =
     let st = c.args.state in
-    let x = c.requires.1 in
+    let x = c.requires in
     let n = c.manipulability.ensures.number ∙ ap (manipulability_number_of st) x in
     c.answered.ensures
     ∙ same_answer _ _ outputs n (ap (λ (v : Float). bytes_of (v ∷ []) ∷ []) (c.manipulability.ensures.value ∙ same-two value_if n (ap (manipulability_value_of st) x)))

@@ -16,7 +16,7 @@ unfolding objective_agrees
 returns c =
     let st = c.args.state in
     let t = c.strict-strict.ensures in
-    let x = c.requires.1 in
+    let x = c.requires in
     let n = c.objective.ensures.number ∙ ap (objective_number_of st) x in
     c.answered.ensures
     ∙ same_answer _ _ objective_outputs n (ap (λ (v : Float). bytes_of (v ∷ []) ∷ []) (c.objective.ensures.value ∙ same-two value_if n (same-two (objective_value_of st) t x)))

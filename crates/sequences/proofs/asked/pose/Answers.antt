@@ -18,8 +18,8 @@ pub returns : goal.returns
 unfolding pose_agrees
 returns c =
     let st = c.args.state in
-    let x = c.requires.at_bound.1 in
-    let n = c.pose-number.ensures.number ∙ same-two (pose_number_of st) x (ap length c.requires.ends_value) in
-    agrees_on _ _ _ outputs [] (agrees-begin _ _ outputs c.number-a.ensures n)
-    (ap bytes_of (c.pose-number.ensures.ends ∙ left-same n c.requires.ends_value (ap (λ (y : List Float). ends_of (links_used st.arms.sizes) st.arms.tools (poses_of st y)) x)))
-    c.floats.ensures
+    let x = c.requires.joints_value in
+    let n = c.pose-answer.ensures.number ∙ same-two (pose_number_of st) x (ap length c.requires.ends_value) in
+    agrees_on _ _ _ outputs [] (agrees-begin _ _ outputs c.number-a.ensures (c.number_of.ensures ∙ n))
+    (ap bytes_of (c.pose-answer.ensures.ends ∙ left-same n c.requires.ends_value (ap (λ (y : List Float). ends_of (links_used st.arms.sizes) st.arms.tools (poses_of st y)) x)))
+    c.elements.ensures

@@ -1,24 +1,25 @@
--- `agrees` meets its contract: by the tests of the call's number.
+-- `agrees` meets its contract: by the call's number.
+use native.Mathlib.Omega.{arith}
 use borrow.Author.Tests.{eq-eqb, ne_eqb, lt-ltb, le-ltb}
 use Rattle.sequences.specs.Asked.{call_agrees, step_agrees}
 use Rattle.sequences.proofs.steps.agrees.Goals as goal
 
-pub returns-then-call-lt5 : goal.returns-then-call-lt5
+pub returns-in-0-to-4 : goal.returns-in-0-to-4
 unfolding step_agrees call_agrees
-returns-then-call-lt5 c = rw (← c.number_at-call.ensures.0, lt-ltb _ 5 c.if-call-lt5.true) c.changed.ensures
+returns-in-0-to-4 c = let n = c.call-call.result in rw (← c.call-call.ensures.0, lt-ltb n 5 (omega arith)) c.changed.ensures
 
-pub returns-then-call-lt11 : goal.returns-then-call-lt11
+pub returns-in-5-to-10 : goal.returns-in-5-to-10
 unfolding step_agrees call_agrees
-returns-then-call-lt11 c = rw (← c.number_at-call.ensures.0, le-ltb _ 5 c.if-call-lt5.false, lt-ltb _ 11 c.if-call-lt11.true) c.asked_stored.ensures
+returns-in-5-to-10 c = let n = c.call-call.result in rw (← c.call-call.ensures.0, le-ltb n 5 (omega arith), lt-ltb n 11 (omega arith)) c.asked_stored.ensures
 
-pub returns-then-call-eq11 : goal.returns-then-call-eq11
+pub returns-in-11 : goal.returns-in-11
 unfolding step_agrees call_agrees
-returns-then-call-eq11 c = rw (← c.number_at-call.ensures.0, le-ltb _ 5 c.if-call-lt5.false, le-ltb _ 11 c.if-call-lt11.false, eq-eqb _ 11 c.if-call-eq11.true) c.gradient_one_block.ensures
+returns-in-11 c = let n = c.call-call.result in rw (← c.call-call.ensures.0, le-ltb n 5 (omega arith), le-ltb n 11 (omega arith), eq-eqb n 11 (c.in-11.is)) c.gradient_one_block.ensures
 
-pub returns-then-call-eq12 : goal.returns-then-call-eq12
+pub returns-in-12 : goal.returns-in-12
 unfolding step_agrees call_agrees
-returns-then-call-eq12 c = rw (← c.number_at-call.ensures.0, le-ltb _ 5 c.if-call-lt5.false, le-ltb _ 11 c.if-call-lt11.false, ne_eqb _ 11 c.if-call-eq11.false, eq-eqb _ 12 c.if-call-eq12.true) c.kept.ensures
+returns-in-12 c = let n = c.call-call.result in rw (← c.call-call.ensures.0, le-ltb n 5 (omega arith), le-ltb n 11 (omega arith), ne_eqb n 11 (omega arith), eq-eqb n 12 (c.in-12.is)) c.kept.ensures
 
-pub returns : goal.returns
+pub returns-in_default : goal.returns-in_default
 unfolding step_agrees call_agrees
-returns c = rw (← c.number_at-call.ensures.0, le-ltb _ 5 c.if-call-lt5.false, le-ltb _ 11 c.if-call-lt11.false, ne_eqb _ 11 c.if-call-eq11.false, ne_eqb _ 12 c.if-call-eq12.false) c.changed-2.ensures
+returns-in_default c = let n = c.call-call.result in rw (← c.call-call.ensures.0, le-ltb n 5 (omega arith), le-ltb n 11 (omega arith), ne_eqb n 11 (omega arith), ne_eqb n 12 (omega arith)) c.changed-in_default.ensures

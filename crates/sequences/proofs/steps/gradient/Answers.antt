@@ -16,8 +16,8 @@ slice_bounds-gradient-end-2 c = sym (length-take-le _ _ (omega (arith, c.room-n.
 
 pub gradient-requires : goal.gradient-requires
 gradient-requires c =
-    let o = list_of c.args.s.now c.args.at in record {
-      at_bound = c.requires;
+    let o = list_of c.args.r.s.now c.args.r.at in record {
+      joints_value = c.requires;
       scratch_value = (
         front-floats (o (objective_outputs + 1)) _ 8192 c.buffer-a.ensures.0 c.room-m.ensures.0 (omega (arith, c.room-m.ensures.1)),
         front-floats (o (objective_outputs + 2)) _ 8192 c.buffer-b.ensures.0 c.room-n.ensures.0 (omega (arith, c.room-n.ensures.1)),

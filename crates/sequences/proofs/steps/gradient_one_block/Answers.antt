@@ -23,8 +23,8 @@ slice_bounds-gradient_one_block-end-5 c = sym (length-take-le _ _ (omega (arith,
 
 pub gradient_one_block-requires : goal.gradient_one_block-requires
 gradient_one_block-requires c =
-    let o = list_of c.args.s.now c.args.at in record {
-      at_bound = (c.requires, c.floats-k.ensures.held ∙ ap (floats_in 64) c.list.ensures.0);
+    let o = list_of c.args.r.s.now c.args.r.at in record {
+      block_value = c.floats-k.ensures.held ∙ ap (floats_in 64) c.list.ensures.0;
       slopes_value = (
         front-floats (o (objective_outputs + 2)) _ 8192 c.buffer-a.ensures.0 c.room-l.ensures.0 (omega (arith, c.room-l.ensures.1)),
         front-numbers (o (objective_outputs + 3)) _ 32768 c.number_buffer-b.ensures.0 c.number_room-m.ensures.0 (omega (arith, c.number_room-m.ensures.1)),

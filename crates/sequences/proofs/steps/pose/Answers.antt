@@ -12,7 +12,7 @@ slice_bounds-pose-end c = sym (length-take-le _ _ (omega (arith, c.room-n.ensure
 
 pub pose-requires : goal.pose-requires
 pose-requires c =
-    let o = list_of c.args.s.now c.args.at in record {
-      at_bound = c.requires;
+    let o = list_of c.args.r.s.now c.args.r.at in record {
+      joints_value = c.requires;
       ends_value = front-floats (o outputs) _ 8192 c.buffer-a.ensures.0 c.room-n.ensures.0 (omega (arith, c.room-n.ensures.1));
     }

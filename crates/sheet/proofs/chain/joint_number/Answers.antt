@@ -1,15 +1,10 @@
 -- `joint_number` meets its contract: the part before the link has its joints.
-use mathlib.Core.Path.{◌≡◌, sym, ap, ◌∙◌}
+use mathlib.Core.Path.{◌≡◌, ap, ◌∙◌}
 use native.Mathlib.Omega.{arith}
 use lib.ListN.{length, take}
 use lib.Seq.{length-take-le}
 use Rattle.sheet.specs.Chain.{joint_of, joint-part}
 use Rattle.sheet.proofs.chain.joint_number.Goals as goal
-
-pub slice_bounds-before-end : goal.slice_bounds-before-end
-slice_bounds-before-end c =
-    let many : length (take c.args.link c.args.codes.now) ≡ c.args.link = length-take-le c.args.link c.args.codes.now c.requires in
-    sym (many)
 
 pub returns : goal.returns
 returns c =

@@ -1,4 +1,5 @@
--- `joint_turn` meets its contract: each kind by what its call ensures.
+-- `joint_turn` meets its contract: by what its calls ensure.
+use mathlib.Core.Logic.{inl, inr}
 use Rattle.spacetime.specs.Link.{joint_turn}
 use Rattle.spacetime.proofs.arm.joint_turn.Goals as goal
 
@@ -8,16 +9,4 @@ returns-in-Turning c = rw c.in-Turning.is c.turn.ensures
 
 pub returns-in-Sliding : goal.returns-in-Sliding
 unfolding joint_turn
-returns-in-Sliding c = rw c.in-Sliding.is c.identity.ensures
-
-pub returns-in-Telescoping : goal.returns-in-Telescoping
-unfolding joint_turn
-returns-in-Telescoping c = rw c.in-Telescoping.is c.identity-in-Telescoping.ensures
-
-pub returns-in-Fixed : goal.returns-in-Fixed
-unfolding joint_turn
-returns-in-Fixed c = rw c.in-Fixed.is c.identity-in-Fixed.ensures
-
-pub returns-in-Unlisted : goal.returns-in-Unlisted
-unfolding joint_turn
-returns-in-Unlisted c = rw c.in-Unlisted.is c.identity-in-Unlisted.ensures
+returns-in-Sliding c = elim c.in-Sliding.is [ inl e ↦ rw e.1 c.identity.ensures | inr f ↦ elim f [ inl e ↦ rw e.1 c.identity.ensures | inr g ↦ elim g [ inl e ↦ rw e c.identity.ensures | inr e ↦ rw e c.identity.ensures ] ] ]

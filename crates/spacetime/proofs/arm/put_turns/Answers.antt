@@ -1,4 +1,4 @@
-use mathlib.Core.Path.{◌≡◌, refl, sym, ap, ◌∙◌}
+use mathlib.Core.Path.{◌≡◌, sym, ap, ◌∙◌}
 use Prim.Native.Nat.{ℕ, ◌+◌}
 use native.Mathlib.Omega.{arith}
 use lib.ListN.{length, get_or}
@@ -9,25 +9,16 @@ use Rattle.spacetime.specs.Turns.{quats_of, quats-none, quats-turn, turn_at, tur
 use Rattle.spacetime.proofs.arm.put_turns.Goals as goal
 
 pub loop-at-init : goal.loop-at-init
-loop-at-init c = (omega arith, sym (joint-zero _), refl, quats-none _ _)
+loop-at-init c = (sym (joint-zero _), quats-none _ _)
 
 pub value-v-requires : goal.value-v-requires
 value-v-requires c =
     let cs = c.args.codes.now in
     let k = c.loop-at.at in
-    (omega (arith, c), omega (arith, c.requires, c.loop-at.invariant, joint-more cs k, joint-mono cs (k + 1) (length cs) (omega (arith, c)), joint-last cs))
-
-pub overflow_mul-at : goal.overflow_mul-at
-overflow_mul-at c = omega (arith, c.requires, c.loop-at.invariant)
-
-pub put_quat-requires : goal.put_quat-requires
-put_quat-requires c = omega (arith, c.requires, c.loop-at.invariant, c)
+    (omega arith, omega (arith, joint-more cs k, joint-mono cs (k + 1) (length cs) (omega arith), joint-last cs))
 
 pub next_joint-joint-requires : goal.next_joint-joint-requires
-next_joint-joint-requires c = (omega (arith, c), omega (arith, c.requires, c.loop-at.invariant, joint-le c.args.codes.now c.loop-at.at))
-
-pub overflow_add-at : goal.overflow_add-at
-overflow_add-at c = omega (arith, c.requires, c.loop-at.invariant)
+next_joint-joint-requires c = (omega arith, omega (arith, joint-le c.args.codes.now c.loop-at.at))
 
 pub loop-at-preserved : goal.loop-at-preserved
 unfolding turn_at
@@ -37,18 +28,13 @@ loop-at-preserved c =
     let x = c.args.block.now in
     let k = c.loop-at.at in
     let turn : ℕ → Quat = λ l. turn_at cs x l (joint_of cs l) in (
-      omega (arith, c),
-      c.next_joint-joint.ensures ∙ ap (λ (j : ℕ). j + joints_of (get_or cs k 0)) c.loop-at.invariant.1 ∙ sym (joint-more cs k),
-      c.put_quat.auto.l ∙ c.loop-at.invariant.2,
-      quats-turn turn c.args.turns.now c.loop-at.turns _ k c.joint_turn-t.result c.loop-at.invariant.3 (omega (arith, c.requires, c.loop-at.invariant))
-          (made ∙ ap (turn_at cs x k) c.loop-at.invariant.1) c.put_quat.ensures,
+      c.next_joint-joint.ensures ∙ ap (λ (j : ℕ). j + joints_of (get_or cs k 0)) c.loop-at.invariant.0 ∙ sym (joint-more cs k),
+      quats-turn turn c.args.turns.now c.loop-at.turns _ k c.joint_turn-t.result c.loop-at.invariant.1 (omega arith)
+          (made ∙ ap (turn_at cs x k) c.loop-at.invariant.0) c.put_quat.ensures,
     )
-
-pub shape_of-turns : goal.shape_of-turns
-shape_of-turns c = c.loop-at.invariant.2
 
 pub returns : goal.returns
 unfolding turns_of
 returns c =
-    let e : c.loop-at.at ≡ length c.args.codes.now = omega (arith, c.loop-at.invariant, c) in
-    c.loop-at.invariant.3 ∙ ap (λ (n : ℕ). splice c.args.turns.now 0 (quats_of (λ l. turn_at c.args.codes.now c.args.block.now l (joint_of c.args.codes.now l)) n)) e
+    let e : c.loop-at.at ≡ length c.args.codes.now = omega arith in
+    c.loop-at.invariant.1 ∙ ap (λ (n : ℕ). splice c.args.turns.now 0 (quats_of (λ l. turn_at c.args.codes.now c.args.block.now l (joint_of c.args.codes.now l)) n)) e

@@ -1,4 +1,4 @@
-use mathlib.Core.Path.{◌≡◌, refl, ap, ◌∙◌}
+use mathlib.Core.Path.{◌≡◌, ap, ◌∙◌}
 use mathlib.Core.List.{List}
 use Prim.Native.Nat.{ℕ, ◌*◌, ◌≤◌}
 use native.Mathlib.Omega.{arith}
@@ -11,25 +11,7 @@ use Rattle.spacetime.specs.Turns.{quats_of, quats-none, quats-turn, quats-ahead,
 use Rattle.spacetime.proofs.arm.walk_rotations.Goals as goal
 
 pub loop-at-init : goal.loop-at-init
-loop-at-init c = (omega arith, met-zero _ _ _ _ _ (first-zero _), refl, quats-none _ _)
-
-pub overflow_mul-at : goal.overflow_mul-at
-overflow_mul-at c = omega (arith, c.requires, c)
-
-pub get_quat-t-requires : goal.get_quat-t-requires
-get_quat-t-requires c = omega (arith, c.requires, c, c.loop-at.invariant)
-
-pub after_turn-q-requires : goal.after_turn-q-requires
-after_turn-q-requires c = omega (arith, c.requires, c)
-
-pub overflow_mul-at-in-loop-at : goal.overflow_mul-at-in-loop-at
-overflow_mul-at-in-loop-at c = omega (arith, c.requires, c.loop-at.invariant)
-
-pub put_quat-requires : goal.put_quat-requires
-put_quat-requires c = omega (arith, c.requires, c.loop-at.invariant, c)
-
-pub overflow_add-at : goal.overflow_add-at
-overflow_add-at c = omega (arith, c.requires, c)
+loop-at-init c = (met-zero _ _ _ _ _ (first-zero _), quats-none _ _)
 
 pub loop-at-preserved : goal.loop-at-preserved
 loop-at-preserved c =
@@ -38,22 +20,17 @@ loop-at-preserved c =
     let gs = c.args.floats.now in
     let ts = c.args.turns.now in
     let k = c.loop-at.at in
-    let fits : 4 * k ≤ length ts = omega (arith, c.requires, c.loop-at.invariant) in
+    let fits : 4 * k ≤ length ts = omega (arith, c.requires) in
     let t : c.get_quat-t.result ≡ quat_at ts (4 * k) =
-    c.get_quat-t.ensures ∙ ap (λ (z : List Float). quat_at z (4 * k)) c.loop-at.invariant.3 ∙ quats-ahead (rotation_by ns cs gs ts) ts k k fits (omega arith) in
+    c.get_quat-t.ensures ∙ ap (λ (z : List Float). quat_at z (4 * k)) c.loop-at.invariant.1 ∙ quats-ahead (rotation_by ns cs gs ts) ts k k fits (omega arith) in
     let made : c.after_turn-q.result ≡ rotation_by ns cs gs ts k =
-    rotation-made ns cs gs ts k c.loop-at.q c.start_rotation.result c.get_quat-t.result c.after_turn-q.result c.loop-at.invariant.1 c.start_rotation.ensures t c.after_turn-q.ensures in (
-      omega (arith, c),
+    rotation-made ns cs gs ts k c.loop-at.q c.start_rotation.result c.get_quat-t.result c.after_turn-q.result c.loop-at.invariant.0 c.start_rotation.ensures t c.after_turn-q.ensures in (
       met-more ns cs gs ts k c.after_turn-q.result made,
-      c.put_quat.auto.l ∙ c.loop-at.invariant.2,
-      quats-turn (rotation_by ns cs gs ts) ts c.loop-at.turns _ k c.after_turn-q.result c.loop-at.invariant.3 fits made c.put_quat.ensures,
+      quats-turn (rotation_by ns cs gs ts) ts c.loop-at.turns _ k c.after_turn-q.result c.loop-at.invariant.1 fits made c.put_quat.ensures,
     )
-
-pub shape_of-turns : goal.shape_of-turns
-shape_of-turns c = c.loop-at.invariant.2
 
 pub returns : goal.returns
 unfolding rotations_by
 returns c =
-    let e : c.loop-at.at ≡ length c.args.codes.now = omega (arith, c.loop-at.invariant, c) in
-    c.loop-at.invariant.3 ∙ ap (λ (n : ℕ). splice c.args.turns.now 0 (quats_of (rotation_by c.args.counts.now c.args.codes.now c.args.floats.now c.args.turns.now) n)) e
+    let e : c.loop-at.at ≡ length c.args.codes.now = omega arith in
+    c.loop-at.invariant.1 ∙ ap (λ (n : ℕ). splice c.args.turns.now 0 (quats_of (rotation_by c.args.counts.now c.args.codes.now c.args.floats.now c.args.turns.now) n)) e

@@ -22,37 +22,16 @@ made ns ts r out at k from e = ap (λ (f : ℕ). splice out at (flat (tip_of ts 
 
 pub loop-c-init : goal.loop-c-init
 unfolding chain_start
-loop-c-init c = (omega arith, refl, refl, splice-none (chain_end _ _ (list_pose _)) _ 0 0)
-
-pub overflow_cast-from : goal.overflow_cast-from
-overflow_cast-from c = omega (arith, c.type_inv.counts c.loop-c.c)
+loop-c-init c = (refl, splice-none (chain_end _ _ (list_pose _)) _ 0 0)
 
 pub overflow_add-from : goal.overflow_add-from
-overflow_add-from c = omega (arith, c.requires, c.loop-c.invariant, c, c.requires.chains.0.some c.loop-c.c (omega (arith, c)), chain-within c.args.counts.now c.loop-c.c (omega (arith, c)))
-
-pub overflow_sub-from : goal.overflow_sub-from
-overflow_sub-from c = omega (arith, c.requires, c.loop-c.invariant, c, c.requires.chains.0.some c.loop-c.c (omega (arith, c)), chain-within c.args.counts.now c.loop-c.c (omega (arith, c)))
+overflow_add-from c = omega (arith, c.requires.chains.0.some c.loop-c.c (omega arith), chain-within c.args.counts.now c.loop-c.c (omega arith))
 
 pub overflow_mul-from : goal.overflow_mul-from
-overflow_mul-from c = omega (arith, c.requires, c.loop-c.invariant, c, c.requires.chains.0.some c.loop-c.c (omega (arith, c)), chain-within c.args.counts.now c.loop-c.c (omega (arith, c)))
+overflow_mul-from c = omega (arith, c.requires.chains.0.some c.loop-c.c (omega arith), chain-within c.args.counts.now c.loop-c.c (omega arith))
 
 pub get-last-requires : goal.get-last-requires
-get-last-requires c = omega (arith, c.requires, c.loop-c.invariant, c, c.requires.chains.0.some c.loop-c.c (omega (arith, c)), chain-within c.args.counts.now c.loop-c.c (omega (arith, c)))
-
-pub overflow_mul-c : goal.overflow_mul-c
-overflow_mul-c c = omega (arith, c.requires, c)
-
-pub tip-requires : goal.tip-requires
-tip-requires c = omega (arith, c.requires, c)
-
-pub put-requires : goal.put-requires
-put-requires c = omega (arith, c.requires, c.loop-c.invariant, c, c.requires.chains.0.some c.loop-c.c (omega (arith, c)), chain-within c.args.counts.now c.loop-c.c (omega (arith, c)))
-
-pub overflow_add-c : goal.overflow_add-c
-overflow_add-c c = omega (arith, c.requires, c.loop-c.invariant, c, c.requires.chains.0.some c.loop-c.c (omega (arith, c)), chain-within c.args.counts.now c.loop-c.c (omega (arith, c)))
-
-pub loop-c-smaller : goal.loop-c-smaller
-loop-c-smaller c = omega (arith, c)
+get-last-requires c = omega (arith, c.requires.chains.0.some c.loop-c.c (omega arith), chain-within c.args.counts.now c.loop-c.c (omega arith))
 
 pub loop-c-preserved : goal.loop-c-preserved
 loop-c-preserved c =
@@ -62,20 +41,15 @@ loop-c-preserved c =
     let k = c.loop-c.c in
     let f = chain_end ns ts (list_pose r) in
     let n : length (runs f 0 k) ≡ k * 7 = length_runs f 7 (end-length ns ts (list_pose r)) 0 k in (
-      omega (arith, c),
-      ap (λ (m : ℕ). m + get_or ns k 0) c.loop-c.invariant.1 ∙ sym (chain-start-next ns k),
-      c.put.auto.l ∙ c.loop-c.invariant.2,
-      splice-turn-at f c.args.out.now c.loop-c.out _ 0 (7 * k) k c.loop-c.invariant.3 (omega arith) (omega (arith, c.requires, c))
+      ap (λ (m : ℕ). m + get_or ns k 0) c.loop-c.invariant.0 ∙ sym (chain-start-next ns k),
+      splice-turn-at f c.args.out.now c.loop-c.out _ 0 (7 * k) k c.loop-c.invariant.1 (omega arith) (omega arith)
           (c.put.ensures
           ∙ ap (λ (p : Pose). splice c.loop-c.out (7 * k) (flat p)) (c.tip.ensures ∙ ap (tip_of ts k) c.get-last.ensures)
-          ∙ made ns ts r c.loop-c.out (7 * k) k c.loop-c.from c.loop-c.invariant.1),
+          ∙ made ns ts r c.loop-c.out (7 * k) k c.loop-c.from c.loop-c.invariant.0),
     )
-
-pub shape_of-out : goal.shape_of-out
-shape_of-out c = c.loop-c.invariant.2
 
 pub returns : goal.returns
 unfolding ends_of
 returns c =
-    let e : c.loop-c.c ≡ length c.args.counts.now = omega (arith, c.loop-c.invariant, c) in
-    c.loop-c.invariant.3 ∙ ap (λ (k : ℕ). splice c.args.out.now 0 (runs (chain_end c.args.counts.now c.args.tools.now (list_pose c.args.poses.now)) 0 k)) e
+    let e : c.loop-c.c ≡ length c.args.counts.now = omega arith in
+    c.loop-c.invariant.1 ∙ ap (λ (k : ℕ). splice c.args.out.now 0 (runs (chain_end c.args.counts.now c.args.tools.now (list_pose c.args.poses.now)) 0 k)) e

@@ -20,28 +20,19 @@ made ns P out at k from e = ap (λ (f : ℕ). splice out at (positions_from P f 
 
 pub loop-c-init : goal.loop-c-init
 unfolding chain_start
-loop-c-init c = (omega arith, refl, refl, splice-none (chain_positions _ (list_pose _)) _ 0 0)
-
-pub overflow_cast-n : goal.overflow_cast-n
-overflow_cast-n c = omega (arith, c.type_inv.counts c.loop-c.c)
+loop-c-init c = (refl, splice-none (chain_positions _ (list_pose _)) _ 0 0)
 
 pub overflow_add-from : goal.overflow_add-from
-overflow_add-from c = omega (arith, c.requires, c.loop-c.invariant, c, chain-within c.args.counts.now c.loop-c.c (omega (arith, c)))
+overflow_add-from c = omega (arith, chain-within c.args.counts.now c.loop-c.c (omega arith))
 
 pub overflow_mul-from : goal.overflow_mul-from
-overflow_mul-from c = omega (arith, c.requires, c.loop-c.invariant, c, chain-within c.args.counts.now c.loop-c.c (omega (arith, c)))
+overflow_mul-from c = omega (arith, chain-within c.args.counts.now c.loop-c.c (omega arith))
 
 pub chain_positions-requires : goal.chain_positions-requires
-chain_positions-requires c = (omega (arith, c.requires, c.loop-c.invariant, c, chain-within c.args.counts.now c.loop-c.c (omega (arith, c))), omega (arith, c.requires, c.loop-c.invariant, c, chain-within c.args.counts.now c.loop-c.c (omega (arith, c)), chain-start-mono c.args.counts.now (c.loop-c.c + 1) (length c.args.counts.now) (omega (arith, c)), chain-start-next c.args.counts.now c.loop-c.c, chain-start-total c.args.counts.now))
+chain_positions-requires c = (omega (arith, chain-within c.args.counts.now c.loop-c.c (omega arith)), omega (arith, chain-within c.args.counts.now c.loop-c.c (omega arith), chain-start-mono c.args.counts.now (c.loop-c.c + 1) (length c.args.counts.now) (omega arith), chain-start-next c.args.counts.now c.loop-c.c, chain-start-total c.args.counts.now))
 
 pub overflow_add-from-in-loop-c : goal.overflow_add-from-in-loop-c
-overflow_add-from-in-loop-c c = omega (arith, c.requires, c.loop-c.invariant, c, chain-within c.args.counts.now c.loop-c.c (omega (arith, c)))
-
-pub overflow_add-c : goal.overflow_add-c
-overflow_add-c c = omega (arith, c.requires, c.loop-c.invariant, c, chain-within c.args.counts.now c.loop-c.c (omega (arith, c)))
-
-pub loop-c-smaller : goal.loop-c-smaller
-loop-c-smaller c = omega (arith, c)
+overflow_add-from-in-loop-c c = omega (arith, chain-within c.args.counts.now c.loop-c.c (omega arith))
 
 pub loop-c-preserved : goal.loop-c-preserved
 loop-c-preserved c =
@@ -50,19 +41,14 @@ loop-c-preserved c =
     let k = c.loop-c.c in
     let n : length (runs (chain_positions ns P) 0 k) ≡ 3 * (chain_start ns k + k) = positions-length ns P k in
     let piece : c.chain_positions.new.out ≡ splice c.loop-c.out (3 * (c.loop-c.from + k)) (chain_positions ns P k) =
-    c.chain_positions.ensures ∙ made ns P c.loop-c.out (3 * (c.loop-c.from + k)) k c.loop-c.from c.loop-c.invariant.1 in (
-      omega (arith, c),
-      ap (λ (m : ℕ). m + get_or ns k 0) c.loop-c.invariant.1 ∙ sym (chain-start-next ns k),
-      c.chain_positions.auto.out ∙ c.loop-c.invariant.2,
-      splice-turn-at (chain_positions ns P) c.args.out.now c.loop-c.out _ 0 (3 * (c.loop-c.from + k)) k c.loop-c.invariant.3
-          (omega (arith, c.loop-c.invariant.1)) (omega (arith, c.requires, chain-within ns k (omega (arith, c)))) piece,
+    c.chain_positions.ensures ∙ made ns P c.loop-c.out (3 * (c.loop-c.from + k)) k c.loop-c.from c.loop-c.invariant.0 in (
+      ap (λ (m : ℕ). m + get_or ns k 0) c.loop-c.invariant.0 ∙ sym (chain-start-next ns k),
+      splice-turn-at (chain_positions ns P) c.args.out.now c.loop-c.out _ 0 (3 * (c.loop-c.from + k)) k c.loop-c.invariant.1
+          (omega (arith, c.loop-c.invariant.0)) (omega (arith, c.requires, chain-within ns k (omega arith))) piece,
     )
-
-pub shape_of-out : goal.shape_of-out
-shape_of-out c = c.loop-c.invariant.2
 
 pub returns : goal.returns
 unfolding positions_of
 returns c =
-    let e : c.loop-c.c ≡ length c.args.counts.now = omega (arith, c.loop-c.invariant, c) in
-    c.loop-c.invariant.3 ∙ ap (λ (k : ℕ). splice c.args.out.now 0 (runs (chain_positions c.args.counts.now (list_pose c.args.poses.now)) 0 k)) e
+    let e : c.loop-c.c ≡ length c.args.counts.now = omega arith in
+    c.loop-c.invariant.1 ∙ ap (λ (k : ℕ). splice c.args.out.now 0 (runs (chain_positions c.args.counts.now (list_pose c.args.poses.now)) 0 k)) e

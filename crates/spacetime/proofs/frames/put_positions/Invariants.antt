@@ -1,7 +1,5 @@
 -- `put_positions` meets its contract: turn after turn one chain more.
 use mathlib.Core.Path.{◌≡◌}
-use Prim.Native.Nat.{◌-◌, ◌≤◌}
-use lib.ListN.{length}
 use Rattle.lists.specs.Splice.{splice}
 use Rattle.lists.specs.Runs.{runs}
 use Rattle.sheet.specs.Chain.{chain_start}
@@ -10,7 +8,4 @@ use Rattle.spacetime.specs.Frames.{chain_positions}
 use Rattle.spacetime.proofs.frames.put_positions.Given as goal
 
 abbrev pub invariant-loop-c : goal.invariant-loop-c
-invariant-loop-c l = (l.c ≤ length l.counts) × (l.from ≡ chain_start l.counts l.c) × (length l.out ≡ length l.initial.out) × (l.out ≡ splice l.initial.out 0 (runs (chain_positions l.counts (list_pose l.poses)) 0 l.c))
-
-abbrev pub decreases-loop-c : goal.decreases-loop-c
-decreases-loop-c l = length l.counts - l.c
+invariant-loop-c l = (l.from ≡ chain_start l.counts l.c) × (l.out ≡ splice l.initial.out 0 (runs (chain_positions l.counts (list_pose l.poses)) 0 l.c))

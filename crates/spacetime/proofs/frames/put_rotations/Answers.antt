@@ -20,31 +20,19 @@ made ns P out at k from e = ap (λ (f : ℕ). splice out at (rotations_from P f 
 
 pub loop-c-init : goal.loop-c-init
 unfolding chain_start
-loop-c-init c = (omega arith, refl, refl, splice-none (chain_rotations _ (list_pose _)) _ 0 0)
-
-pub overflow_cast-n : goal.overflow_cast-n
-overflow_cast-n c = omega (arith, c.type_inv.counts c.loop-c.c)
-
-pub overflow_mul-c : goal.overflow_mul-c
-overflow_mul-c c = omega (arith, c.requires, c.loop-c.invariant, c, chain-within c.args.counts.now c.loop-c.c (omega (arith, c)))
+loop-c-init c = (refl, splice-none (chain_rotations _ (list_pose _)) _ 0 0)
 
 pub overflow_add-from : goal.overflow_add-from
-overflow_add-from c = omega (arith, c.requires, c.loop-c.invariant, c, chain-within c.args.counts.now c.loop-c.c (omega (arith, c)))
+overflow_add-from c = omega (arith, chain-within c.args.counts.now c.loop-c.c (omega arith))
 
 pub overflow_mul-from : goal.overflow_mul-from
-overflow_mul-from c = omega (arith, c.requires, c.loop-c.invariant, c, chain-within c.args.counts.now c.loop-c.c (omega (arith, c)))
+overflow_mul-from c = omega (arith, chain-within c.args.counts.now c.loop-c.c (omega arith))
 
 pub chain_rotations-requires : goal.chain_rotations-requires
-chain_rotations-requires c = (c.requires.chains.some c.loop-c.c (omega (arith, c)), omega (arith, c.requires, c.loop-c.invariant, c, chain-within c.args.counts.now c.loop-c.c (omega (arith, c))), omega (arith, c.requires, c.loop-c.invariant, c, chain-within c.args.counts.now c.loop-c.c (omega (arith, c)), chain-start-mono c.args.counts.now (c.loop-c.c + 1) (length c.args.counts.now) (omega (arith, c)), chain-start-next c.args.counts.now c.loop-c.c, chain-start-total c.args.counts.now))
+chain_rotations-requires c = (c.requires.chains.some c.loop-c.c (omega arith), omega (arith, chain-within c.args.counts.now c.loop-c.c (omega arith)), omega (arith, chain-within c.args.counts.now c.loop-c.c (omega arith), chain-start-mono c.args.counts.now (c.loop-c.c + 1) (length c.args.counts.now) (omega arith), chain-start-next c.args.counts.now c.loop-c.c, chain-start-total c.args.counts.now))
 
 pub overflow_add-from-in-loop-c : goal.overflow_add-from-in-loop-c
-overflow_add-from-in-loop-c c = omega (arith, c.requires, c.loop-c.invariant, c, chain-within c.args.counts.now c.loop-c.c (omega (arith, c)))
-
-pub overflow_add-c : goal.overflow_add-c
-overflow_add-c c = omega (arith, c.requires, c.loop-c.invariant, c, chain-within c.args.counts.now c.loop-c.c (omega (arith, c)))
-
-pub loop-c-smaller : goal.loop-c-smaller
-loop-c-smaller c = omega (arith, c)
+overflow_add-from-in-loop-c c = omega (arith, chain-within c.args.counts.now c.loop-c.c (omega arith))
 
 pub loop-c-preserved : goal.loop-c-preserved
 loop-c-preserved c =
@@ -53,19 +41,14 @@ loop-c-preserved c =
     let k = c.loop-c.c in
     let n : length (runs (chain_rotations ns P) 0 k) ≡ 4 * (chain_start ns k + 2 * k) = rotations-length ns P k in
     let piece : c.chain_rotations.new.out ≡ splice c.loop-c.out (4 * (c.loop-c.from + 2 * k)) (chain_rotations ns P k) =
-    c.chain_rotations.ensures ∙ made ns P c.loop-c.out (4 * (c.loop-c.from + 2 * k)) k c.loop-c.from c.loop-c.invariant.1 in (
-      omega (arith, c),
-      ap (λ (m : ℕ). m + get_or ns k 0) c.loop-c.invariant.1 ∙ sym (chain-start-next ns k),
-      c.chain_rotations.auto.out ∙ c.loop-c.invariant.2,
-      splice-turn-at (chain_rotations ns P) c.args.out.now c.loop-c.out _ 0 (4 * (c.loop-c.from + 2 * k)) k c.loop-c.invariant.3
-          (omega (arith, c.loop-c.invariant.1)) (omega (arith, c.requires, chain-within ns k (omega (arith, c)))) piece,
+    c.chain_rotations.ensures ∙ made ns P c.loop-c.out (4 * (c.loop-c.from + 2 * k)) k c.loop-c.from c.loop-c.invariant.0 in (
+      ap (λ (m : ℕ). m + get_or ns k 0) c.loop-c.invariant.0 ∙ sym (chain-start-next ns k),
+      splice-turn-at (chain_rotations ns P) c.args.out.now c.loop-c.out _ 0 (4 * (c.loop-c.from + 2 * k)) k c.loop-c.invariant.1
+          (omega (arith, c.loop-c.invariant.0)) (omega (arith, c.requires, chain-within ns k (omega arith))) piece,
     )
-
-pub shape_of-out : goal.shape_of-out
-shape_of-out c = c.loop-c.invariant.2
 
 pub returns : goal.returns
 unfolding rotations_of
 returns c =
-    let e : c.loop-c.c ≡ length c.args.counts.now = omega (arith, c.loop-c.invariant, c) in
-    c.loop-c.invariant.3 ∙ ap (λ (k : ℕ). splice c.args.out.now 0 (runs (chain_rotations c.args.counts.now (list_pose c.args.poses.now)) 0 k)) e
+    let e : c.loop-c.c ≡ length c.args.counts.now = omega arith in
+    c.loop-c.invariant.1 ∙ ap (λ (k : ℕ). splice c.args.out.now 0 (runs (chain_rotations c.args.counts.now (list_pose c.args.poses.now)) 0 k)) e

@@ -1,32 +1,29 @@
 -- `gradient_by` meets its contract: the list is laid of the state's arrays.
-use mathlib.Core.Path.{refl, sym, ◌∙◌}
-use Rattle.state_calls.specs.StoredTask.{slopes_stored}
-use Rattle.state_calls.specs.Objective.{Lists, value-laid, slopes-laid}
+use mathlib.Core.Path.{refl, ap, ◌∙◌}
+use mathlib.Core.List.{List}
+use lib.Ieee.{Float}
+use Rattle.lists.specs.Splice.{splice}
+use Rattle.refusals.specs.Number.{number_of}
+use Rattle.calls.specs.Answer.{value_if}
+use Rattle.calls.specs.Arms.{if_taken}
+use Rattle.state_calls.specs.Objective.{Lists, value-in-use, slopes-in-use}
+use Rattle.state_calls.specs.StoredTask.{in-use-task}
 use borrow.Author.Rules.{rules}
 use Rattle.state_calls.proofs.objective.gradient_by.Goals as goal
 
-pub slice_bounds-gradient_on-end-3 : goal.slice_bounds-gradient_on-end-3
-slice_bounds-gradient_on-end-3 c =
-    let lists : Lists c.args.state = search rules in
-    sym (lists).floats
+pub gradient-requires : goal.gradient-requires
+gradient-requires c =
+    let l : Lists c.args.state = search rules in
+    in-use-task c.args.state.arms _ _ l.sizes l.codes l.floats c.lay_task.auto.task c.in_ok-sheet.ensures.sheet
 
-pub gradient_on-requires : goal.gradient_on-requires
-gradient_on-requires c =
-    let lists : Lists c.args.state = search rules in
-    let l = lists in
-    record { sizes = l.sizes; codes = l.codes; floats = l.floats; whole = c.lay_task.auto.task }
+pub returns-clause-value : goal.returns-clause-value
+returns-clause-value c =
+    let l : Lists c.args.state = search rules in
+    c.gradient.ensures.value ∙ ap (value_if (number_of c.gradient.result)) (value-in-use c.args.state _ _ _ l refl c.lay_task.ensures _ c.in_ok-sheet.ensures.sheet c.args.joints.now)
 
-pub returns : goal.returns
-unfolding slopes_stored
-returns c =
-    let lists : Lists c.args.state = search rules in
-    let m = c.gradient_on in
-    let a = c.args in
-    let x = a.joints.now in
-    let e = c.lay_task.ensures in record {
-      number = m.ensures.number;
-      value = m.ensures.value ∙ value-laid a.state _ _ _ (lists) refl e x _ _ m.ensures.number;
-      case = m.ensures.case;
-      scratch = m.ensures.scratch;
-      slopes = m.ensures.slopes ∙ slopes-laid a.state _ _ _ (lists) refl e x _ _ m.ensures.number a.rule a.slopes.now;
-    }
+pub returns-clause-slopes : goal.returns-clause-slopes
+returns-clause-slopes c =
+    let l : Lists c.args.state = search rules in
+    let old = c.args.slopes.now in
+    c.gradient.ensures.slopes
+    ∙ ap (λ (d : List Float). if_taken (number_of c.gradient.result) old (splice old 0 d)) (slopes-in-use c.args.state _ _ _ l refl c.lay_task.ensures _ c.in_ok-sheet.ensures.sheet c.args.joints.now c.args.rule)

@@ -1,38 +1,31 @@
 -- `gradient_one_block` meets its contract: the list is laid of the state's arrays.
-use mathlib.Core.Path.{refl, sym, ◌∙◌}
+use mathlib.Core.Path.{refl, ap, ◌∙◌}
+use mathlib.Core.List.{List}
+use lib.Ieee.{Float}
+use Rattle.lists.specs.Splice.{splice}
+use Rattle.refusals.specs.Number.{number_of}
 use Rattle.gradient.specs.declared.slopes.Rule.TheVariants.{EachLoss}
-use Rattle.state_calls.specs.Objective.{Lists, value-laid, slopes-laid}
-use Rattle.state_calls.specs.OneBlock.{one_block_stored}
+use Rattle.calls.specs.Answer.{value_if}
+use Rattle.calls.specs.Arms.{if_taken}
+use Rattle.state_calls.specs.Objective.{Lists, value-in-use, slopes-in-use}
+use Rattle.state_calls.specs.StoredTask.{in-use-task}
 use borrow.Author.Rules.{rules}
 use Rattle.state_calls.proofs.one_block_slopes.gradient_one_block.Goals as goal
 
-pub slice_bounds-gradient_one_block_on-end-2 : goal.slice_bounds-gradient_one_block_on-end-2
-slice_bounds-gradient_one_block_on-end-2 c =
-    let lists : Lists c.args.state = search rules in
-    sym (lists).codes
+pub gradient_one_block-requires : goal.gradient_one_block-requires
+gradient_one_block-requires c =
+    let l : Lists c.args.state = search rules in
+    in-use-task c.args.state.arms _ _ l.sizes l.codes l.floats c.lay_task.auto.task c.in_ok-sheet.ensures.sheet
 
-pub slice_bounds-gradient_one_block_on-end-3 : goal.slice_bounds-gradient_one_block_on-end-3
-slice_bounds-gradient_one_block_on-end-3 c =
-    let lists : Lists c.args.state = search rules in
-    sym (lists).floats
+pub returns-clause-value : goal.returns-clause-value
+returns-clause-value c =
+    let l : Lists c.args.state = search rules in
+    c.gradient_one_block.ensures.value ∙ ap (value_if (number_of c.gradient_one_block.result)) (value-in-use c.args.state _ _ _ l refl c.lay_task.ensures _ c.in_ok-sheet.ensures.sheet c.args.block.now)
 
-pub gradient_one_block_on-requires : goal.gradient_one_block_on-requires
-gradient_one_block_on-requires c =
-    let lists : Lists c.args.state = search rules in
-    let l = lists in
-    record { sizes = l.sizes; codes = l.codes; floats = l.floats; whole = c.lay_task.auto.task }
-
-pub returns : goal.returns
-unfolding one_block_stored
-returns c =
-    let lists : Lists c.args.state = search rules in
-    let m = c.gradient_one_block_on in
-    let a = c.args in
-    let x = a.block.now in
-    let e = c.lay_task.ensures in record {
-      number = m.ensures.number;
-      value = (m.ensures.value.0 ∙ value-laid a.state _ _ _ (lists) refl e x _ _ m.ensures.number, m.ensures.value.1);
-      block = m.ensures.block;
-      slopes = m.ensures.slopes ∙ slopes-laid a.state _ _ _ (lists) refl e x _ _ m.ensures.number EachLoss a.slopes.now;
-      record_written = m.ensures.record_written;
-    }
+pub returns-clause-slopes : goal.returns-clause-slopes
+returns-clause-slopes c =
+    let l : Lists c.args.state = search rules in
+    let old = c.args.slopes.now in
+    c.gradient_one_block.ensures.slopes
+    ∙ ap (λ (d : List Float). if_taken (number_of c.gradient_one_block.result) old (splice old 0 d))
+    (slopes-in-use c.args.state _ _ _ l refl c.lay_task.ensures _ c.in_ok-sheet.ensures.sheet c.args.block.now EachLoss)

@@ -1,49 +1,41 @@
 -- `in_use` meets its contract: each return follows the tests before it.
-use mathlib.Core.Path.{◌≡◌, sym, ap, ◌∙◌}
+use mathlib.Core.Path.{◌≡◌, refl, ap, ◌∙◌}
 use Prim.Native.Nat.{ℕ, ◌+◌, ◌-◌, ◌*◌}
 use native.Mathlib.Omega.{arith}
-use borrow.Author.Tests.{eq-eqb, ne_eqb, lt-ltb, le-ltb}
-use lib.ListN.{take, drop, get_or}
+use lib.ListN.{take, drop, get_or, length-drop}
 use lib.Seq.{length-take-le}
-use Rattle.sheet.specs.Chain.{total}
-use Rattle.refusals.specs.Refusal.{shape_refusal}
-use Rattle.state_calls.specs.State.{sizes_used, links_used, codes_used, have_sheet, counts_of}
+use Rattle.refusals.specs.Number.{paper_number-some}
+use Rattle.state_calls.specs.State.{links_used, codes_used, floats_used}
+use Rattle.state_calls.proofs.InUse.{many-chains, many-links, links, shape-refused, shape-taken}
 use Rattle.state_calls.proofs.state.in_use.Goals as goal
 
-pub returns-then-chains-gt4 : goal.returns-then-chains-gt4
-unfolding counts_of have_sheet
-returns-then-chains-gt4 c = rw (lt-ltb 4 _ c.if-chains-gt4.true)
+pub returns-then-chains-gt4-clause-number : goal.returns-then-chains-gt4-clause-number
+returns-then-chains-gt4-clause-number c = rw (many-chains _ c.args.arms.now.codes c.if-chains-gt4.true)
 
-pub returns-then-links-gt64 : goal.returns-then-links-gt64
-unfolding counts_of have_sheet links_used
-returns-then-links-gt64 c =
-    let links : c.total_links-links.result ≡ total (links_used c.args.sizes.now) = let ss = c.args.sizes.now in
-    let e : get_or ss 0 0 + 1 - 1 ≡ get_or ss 0 0 = omega arith in
-    c.total_links-links.ensures ∙ ap (λ (n : ℕ). total (take n (drop 1 ss))) e in
-    rw (le-ltb 4 _ c.if-chains-gt4.false, lt-ltb 64 (total (links_used c.args.sizes.now)) (omega (arith, links, c.if-links-gt64.true)))
+pub returns-then-links-gt64-clause-number : goal.returns-then-links-gt64-clause-number
+returns-then-links-gt64-clause-number c = rw (many-links _ c.args.arms.now.codes _ c.if-chains-gt4.false c.total_links-links.ensures c.if-links-gt64.true)
 
-pub slice_bounds-shape_refusal-end : goal.slice_bounds-shape_refusal-end
-slice_bounds-shape_refusal-end c = sym (length-take-le (get_or c.args.sizes.now 0 0 + 1) c.args.sizes.now (omega (arith, c.requires, c.if-chains-gt4.false)))
-
-pub slice_bounds-shape_refusal-end-2 : goal.slice_bounds-shape_refusal-end-2
-slice_bounds-shape_refusal-end-2 c = sym (length-take-le c.total_links-links.result c.args.codes.now (omega (arith, c.requires, c.if-links-gt64.false)))
-
-pub returns-then-shape_refusal-ne0 : goal.returns-then-shape_refusal-ne0
-unfolding counts_of have_sheet links_used sizes_used codes_used
-returns-then-shape_refusal-ne0 c =
-    let links : c.total_links-links.result ≡ total (links_used c.args.sizes.now) = let ss = c.args.sizes.now in
-    let e : get_or ss 0 0 + 1 - 1 ≡ get_or ss 0 0 = omega arith in
-    c.total_links-links.ensures ∙ ap (λ (n : ℕ). total (take n (drop 1 ss))) e in
-    let shape : c.shape_refusal.result ≡ shape_refusal (sizes_used c.args.sizes.now) (codes_used c.args.sizes.now c.args.codes.now) (7 * total (links_used c.args.sizes.now)) = let ss = c.args.sizes.now in
-    c.shape_refusal.ensures ∙ ap (λ (n : ℕ). shape_refusal (take (get_or ss 0 0 + 1) ss) (take n c.args.codes.now) (7 * n)) (links) in
-    rw (le-ltb 4 _ c.if-chains-gt4.false, le-ltb 64 (total (links_used c.args.sizes.now)) (omega (arith, links, c.if-links-gt64.false)), ne_eqb _ 0 (λ z. c.if-shape_refusal-ne0.true (shape ∙ z)))
+pub returns-in_default-clause-number : goal.returns-in_default-clause-number
+returns-in_default-clause-number c =
+    rw (shape-refused _ _ _ c.if-chains-gt4.false c.total_links-links.ensures _ c.if-links-gt64.false c.in_default.ensures (λ z. omega (arith, paper_number-some c.in_default.field-0, z)))
 
 pub returns : goal.returns
-unfolding counts_of have_sheet links_used sizes_used codes_used
+unfolding links_used codes_used floats_used
 returns c =
-    let links : c.total_links-links.result ≡ total (links_used c.args.sizes.now) = let ss = c.args.sizes.now in
+    let ss = c.args.arms.now.sizes in
+    let cs = c.args.arms.now.codes in
+    let n = c.total_links-links.result in
+    let sum = c.total_links-links.ensures in
+    let few = c.if-chains-gt4.false in
+    let l = links ss cs n few sum in
     let e : get_or ss 0 0 + 1 - 1 ≡ get_or ss 0 0 = omega arith in
-    c.total_links-links.ensures ∙ ap (λ (n : ℕ). total (take n (drop 1 ss))) e in
-    let shape : c.shape_refusal.result ≡ shape_refusal (sizes_used c.args.sizes.now) (codes_used c.args.sizes.now c.args.codes.now) (7 * total (links_used c.args.sizes.now)) = let ss = c.args.sizes.now in
-    c.shape_refusal.ensures ∙ ap (λ (n : ℕ). shape_refusal (take (get_or ss 0 0 + 1) ss) (take n c.args.codes.now) (7 * n)) (links) in
-    rw (le-ltb 4 _ c.if-chains-gt4.false, le-ltb 64 (total (links_used c.args.sizes.now)) (omega (arith, links, c.if-links-gt64.false)), eq-eqb _ 0 (sym (shape) ∙ c.if-shape_refusal-ne0.false), links)
+    let there = shape-taken ss cs n few sum 0 c.if-links-gt64.false c.in-Ok.ensures refl in record {
+      number = rw there;
+      sheet = record {
+        have = there;
+        chains = length-take-le _ (drop 1 ss) (omega (arith, length-drop {A = ℕ}, c.type_inv.arms)) ∙ e;
+        counts = ap (λ (k : ℕ). take k (drop 1 ss)) e;
+        codes = ap (λ (k : ℕ). take k cs) l;
+        floats = ap (λ (k : ℕ). take (7 * k) c.args.arms.now.floats) l;
+      };
+    }

@@ -13,5 +13,5 @@ returns c =
     let a = c.args in
     let t = a.task.now in
     let k = length t - a.at in
-    ap (λ (l : List Float). take a.at t ++ (l ++ drop k (drop a.at t))) c.copy_floats.ensures
+    ap (λ (l : List Float). take a.at t ++ (l ++ drop k (drop a.at t))) c.copy.ensures
     ∙ put-splice t a.at k a.src.now (omega arith) (omega arith)

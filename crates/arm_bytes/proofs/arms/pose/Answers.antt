@@ -1,8 +1,0 @@
--- `pose` meets its contract: by what its calls ensure of the decoded lists.
-use Rattle.lent_bytes.specs.SheetLists.{sheet-held}
-use Rattle.arm_bytes.proofs.arms.pose.Goals as goal
-
-pub returns : goal.returns
-returns c =
-    rw (sheet-held c.decode-n.ensures, c.decode-t.ensures, c.floats-nx.ensures.held)
-    at c.pose.ensures

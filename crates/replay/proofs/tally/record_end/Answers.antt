@@ -1,8 +1,0 @@
--- `record_end` meets its contract: by what its calls ensure.
-use native.Mathlib.Omega.{arith}
-use Rattle.stored_answers.specs.Records.{end_by}
-use Rattle.replay.proofs.tally.record_end.Goals as goal
-
-pub returns : goal.returns
-unfolding end_by
-returns c = (cc, omega arith)

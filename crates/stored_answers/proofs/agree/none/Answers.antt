@@ -1,8 +1,0 @@
--- `none` meets its contract: by what its call ensures.
-use Rattle.stored_answers.specs.Agree.{agrees-none}
-use mathlib.Core.Path.{sym, ap, ◌∙◌}
-use lib.Dec.{eqb}
-use Rattle.stored_answers.proofs.agree.none.Goals as goal
-
-pub returns : goal.returns
-returns c = ap (eqb c.args.number) c.number_at.ensures.0 ∙ sym (agrees-none _ _ _ 0)

@@ -1,8 +1,0 @@
--- `list` meets its contract: by what its calls ensure.
-use Rattle.stored_answers.specs.Stored.{list_of}
-use borrow.Author.Rules.{rules}
-use Rattle.stored_answers.proofs.stored.list.Goals as goal
-
-pub returns : goal.returns
-unfolding list_of
-returns c = (cc, search rules)
