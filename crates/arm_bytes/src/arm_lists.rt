@@ -1,10 +1,11 @@
 // What the byte calls on an arm sheet do once their lists are decoded; outputs are bytes.
 ghost use Rattle.std.specs.Prelude.{◌≡◌, ◌*◌, ◌≤◌, length};
 ghost use Rattle.lists.specs.Splice.{splice};
-ghost use Rattle.lent_bytes.specs.Lent.{bytes_of};
+ghost use Rattle.lent_bytes.specs.Lent.{room_in, bytes_of};
 ghost use Rattle.refusals.specs.Lengths.{plan_length};
 ghost use Rattle.refusals.specs.Number.{number_of};
-ghost use Rattle.refusals.specs.Refusal.{room_refusal};
+ghost use Rattle.refusals.specs.Lowest.{first_of};
+ghost use Rattle.refusals.specs.Refusal.{block_refusal, room_refusal};
 ghost use Rattle.lent_bytes.specs.SheetLists.{sheet_of, room_of, number_room_of};
 ghost use Rattle.sizing.specs.Sizing.{plan_list, Small};
 ghost use Rattle.arm_bytes.specs.ArmCalls.{sizing_number, set_goals_number, set_tool_number, frames_number, pose_number, update_number, reset_number, manipulability_number};
@@ -202,6 +203,15 @@ pub fn reset(
     Ok(())
 }
 
+// What the call of one float asks before its work, so that a refused call does none: the block, then the output's room.
+#[tactic(auto, unfolding(refusals::specs::Lowest::first_of))]
+fn value_refusal(codes: &[u16], block: &[f64], value: usize) -> Result<(), Refusal>
+    ensures { number_of result ≡ first_of (block_refusal codes.now block.now) (room_refusal 1 (room_in value)) }
+{
+    lent::block_refusal(codes, block)?;
+    lent::room_refusal(1, bytes_lent::room(value))
+}
+
 // The answer is one float.
 #[tactic(auto, using(crate::specs::ArmLaws::sheets), unfolding(refusals::specs::Lowest::first_of, calls::specs::Arms::if_taken, crate::specs::ArmCalls::manipulability_number))]
 pub fn manipulability(
@@ -217,8 +227,8 @@ pub fn manipulability(
 {
     load::load_refusal(sizes, codes, floats, limits)?;
     let counts = shape::links(sizes);
+    value_refusal(codes, joints, value.len())?;
     let v = measure::manipulability(counts, codes, floats, joints)?;
-    lent::room_refusal(1, bytes_lent::room(value.len()))?;
     bytes_lent::put_floats(&[v], 0, value);
     Ok(())
 }

@@ -1,5 +1,5 @@
 -- The answer of a call that gives one float: the value, and NaN for a refusal. Its number is `number_of`.
-use Rattle.std.specs.Prelude.{◌≡◌, refl, Bool, true, false, cond, ℕ, eqb, Float, Result, Ok, Err}
+use Rattle.std.specs.Prelude.{◌≡◌, refl, Bool, true, false, cond, ℕ, zero, suc, ◌≤◌, eqb, Float, Result, Ok, Err}
 use Rattle.std.specs.Float.{nan}
 use Rattle.std.proofs.Common.{sym, ap, ◌∙◌, eq-eqb, ne_eqb, arith}
 use Rattle.refusals.specs.declared.refusal.Refusal.{Refusal}
@@ -39,6 +39,12 @@ answer-taken v = refl
 pub answer-refused : (n : ℕ) (v : Float) → (n ≡ 0 → ⊥) → answer_of n v ≡ Err (refusal_of n)
 unfolding answer_of
 answer-refused n v h = rw (ne_eqb n 0 h)
+
+-- its number is the one that made it: of 0, and of every number that is a refusal's
+pub answer-number : (n : ℕ) (v : Float) → (1 ≤ n → paper_number (refusal_of n) ≡ n) → number_of (answer_of n v) ≡ n
+unfolding answer_of
+answer-number zero v named = refl
+answer-number (suc k) v named = rw (ne_eqb (suc k) 0 (λ z. omega arith)) (named (omega arith))
 
 -- an answer is the one that its number and its value make: they say all of it
 pub answer-is : (r : Result Float Refusal) → r ≡ answer_of (number_of r) (answer_value r)

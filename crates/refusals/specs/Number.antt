@@ -64,6 +64,11 @@ pub number-of-refusal : (n : ℕ) → 1 ≤ n → n ≤ 11 → paper_number (ref
 unfolding refusal_of
 number-of-refusal n some few = grind (arith, nat_tests)
 
+-- and so are 20 to 22
+pub number-of-missing : (n : ℕ) → 20 ≤ n → n ≤ 22 → paper_number (refusal_of n) ≡ n
+unfolding refusal_of
+number-of-missing n some few = grind (arith, nat_tests)
+
 -- ---- laws: the number says which answer it is
 pub refused : {T : Type 0} (r : Result T Refusal) (e : Refusal) → number_of r ≡ paper_number e → r ≡ Err e
 refused (Ok v) e same = absurd (omega (arith, paper_number-some e, same))

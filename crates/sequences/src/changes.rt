@@ -3,7 +3,7 @@ ghost use Rattle.std.specs.Prelude.{◌≡◌, ◌≤◌};
 ghost use Rattle.lent_bytes.specs.Lent.{floats_in};
 ghost use Rattle.state_calls.specs.Load.{answered};
 ghost use Rattle.stored_answers.specs.Stored.{list_of};
-ghost use Rattle.sequences.specs.Changes.{load_at, set_tool_at, outcome_at};
+ghost use Rattle.sequences.specs.Changes.{load_at, set_goals_at, reset_at, update_at, set_weights_at, set_tool_at, outcome_at};
 
 use crate::table;
 use lent_bytes::held;
@@ -22,16 +22,51 @@ pub fn floats(r: Record, k: usize) -> Held<f64, 64>
     held::decode(r.list(k))
 }
 
+// Each call is made in a function of its own that is not inlined, so that a record pays for the lists of its own call alone.
+#[inline(never)]
 fn load_stored(state: State, r: Record) -> Result<State, Refusal>
     ensures { answered state result ≡ load_at state r.entry.s.now r.entry.at }
 {
-    let sizes: Held<u16, 8> = held::decode(r.list(table::SIZES));
-    let codes: Held<u16, 80> = held::decode(r.list(table::CODES));
-    let floats: Held<f64, 512> = held::decode(r.list(table::FLOATS));
-    let limits: Held<f64, 64> = held::decode(r.list(table::LIMITS));
+    let mut sizes: Held<u16, 8> = Held::empty();
+    let mut codes: Held<u16, 80> = Held::empty();
+    let mut floats: Held<f64, 512> = Held::empty();
+    let mut limits: Held<f64, 64> = Held::empty();
+    held::refill(r.list(table::SIZES), &mut sizes);
+    held::refill(r.list(table::CODES), &mut codes);
+    held::refill(r.list(table::FLOATS), &mut floats);
+    held::refill(r.list(table::LIMITS), &mut limits);
     load::load(state, &sizes, &codes, &floats, &limits)
 }
 
+#[inline(never)]
+fn set_goals(state: State, r: Record) -> Result<State, Refusal>
+    ensures { answered state result ≡ set_goals_at state r.entry.s.now r.entry.at }
+{
+    party::set_goals(state, &floats(r, table::GOALS))
+}
+
+#[inline(never)]
+fn reset(state: State, r: Record) -> Result<State, Refusal>
+    ensures { answered state result ≡ reset_at state r.entry.s.now r.entry.at }
+{
+    party::reset(state, &floats(r, table::JOINTS))
+}
+
+#[inline(never)]
+fn update(state: State, r: Record) -> Result<State, Refusal>
+    ensures { answered state result ≡ update_at state r.entry.s.now r.entry.at }
+{
+    party::update(state, &floats(r, table::JOINTS))
+}
+
+#[inline(never)]
+fn set_weights(state: State, r: Record) -> Result<State, Refusal>
+    ensures { answered state result ≡ set_weights_at state r.entry.s.now r.entry.at }
+{
+    weights::set_weights(state, &floats(r, table::WEIGHTS))
+}
+
+#[inline(never)]
 fn set_tool(state: State, r: Record) -> Result<State, Refusal>
     ensures { answered state result ≡ set_tool_at state r.entry.s.now r.entry.at }
 {
@@ -46,10 +81,10 @@ pub fn outcome(call: usize, state: State, r: Record) -> Result<State, Refusal>
     match call {
         0 => Ok(state::empty()),
         1 => load_stored(state, r),
-        2 => party::set_goals(state, &floats(r, table::GOALS)),
-        3 => party::reset(state, &floats(r, table::JOINTS)),
-        4 => party::update(state, &floats(r, table::JOINTS)),
-        13 => weights::set_weights(state, &floats(r, table::WEIGHTS)),
+        2 => set_goals(state, r),
+        3 => reset(state, r),
+        4 => update(state, r),
+        13 => set_weights(state, r),
         14 => set_tool(state, r),
         _ => Ok(state),
     }

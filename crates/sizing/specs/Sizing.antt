@@ -57,23 +57,28 @@ planned-if (suc n) sheet plan e =
     let z : Err (refusal_of (suc n)) ≡ Ok plan = rw (ne_eqb (suc n) 0 (λ z. omega arith)) at e in
     cc
 
-number-if : (number : ℕ) (sheet : Plan) → number ≤ 11 → number_of (planned_if number sheet) ≡ number
+-- of every number that is a refusal's, and of 0
+number-if : (number : ℕ) (sheet : Plan) → (1 ≤ number → paper_number (refusal_of number) ≡ number) → number_of (planned_if number sheet) ≡ number
 unfolding planned_if
-number-if zero sheet few = refl
-number-if (suc k) sheet few = rw (ne_eqb (suc k) 0 (λ z. omega arith)) (number-of-refusal (suc k) (omega arith) few)
+number-if zero sheet named = refl
+number-if (suc k) sheet named = rw (ne_eqb (suc k) 0 (λ z. omega arith)) (named (omega arith))
 
-refused-if : (number : ℕ) (sheet : Plan) (e : Refusal) → number ≤ 11 → planned_if number sheet ≡ Err e → (paper_number e ≡ 0 → ⊥) × (paper_number e ≡ number)
-refused-if number sheet e few same =
-    (λ z. omega (arith, paper_number-some e, z), sym (ap number_of same) ∙ number-if number sheet few)
+refused-if : (number : ℕ) (sheet : Plan) (e : Refusal) → (1 ≤ number → paper_number (refusal_of number) ≡ number) → planned_if number sheet ≡ Err e
+    → (paper_number e ≡ 0 → ⊥) × (paper_number e ≡ number)
+refused-if number sheet e named same =
+    (λ z. omega (arith, paper_number-some e, z), sym (ap number_of same) ∙ number-if number sheet named)
 
 module _ (p : Picks) (sizes codes : List ℕ) (floats : List Float) where
   few : sizing_refusal sizes codes floats ≤ 11
   few = omega (arith, sizing-most sizes codes floats)
 
+  named : 1 ≤ sizing_refusal sizes codes floats → paper_number (refusal_of (sizing_refusal sizes codes floats)) ≡ sizing_refusal sizes codes floats
+  named some = number-of-refusal (sizing_refusal sizes codes floats) some few
+
   -- the number is the lowest of those of loading but 5
   pub sizing-number : number_of (sizing_of p sizes codes floats) ≡ sizing_refusal sizes codes floats
   unfolding sizing_of
-  sizing-number = number-if (sizing_refusal sizes codes floats) (sheet_plan p sizes codes) few
+  sizing-number = number-if (sizing_refusal sizes codes floats) (sheet_plan p sizes codes) named
 
   -- a plan is answered for a sheet that is taken, and is that sheet's
   pub planned-is : (plan : Plan) → sizing_of p sizes codes floats ≡ Ok plan → (sizing_refusal sizes codes floats ≡ 0) × (plan ≡ sheet_plan p sizes codes)
@@ -83,7 +88,7 @@ module _ (p : Picks) (sizes codes : List ℕ) (floats : List Float) where
   -- and a refusal has the sheet's number, which is not 0
   pub refused-is : (e : Refusal) → sizing_of p sizes codes floats ≡ Err e → (paper_number e ≡ 0 → ⊥) × (paper_number e ≡ sizing_refusal sizes codes floats)
   unfolding sizing_of
-  refused-is e same = refused-if (sizing_refusal sizes codes floats) (sheet_plan p sizes codes) e few same
+  refused-is e same = refused-if (sizing_refusal sizes codes floats) (sheet_plan p sizes codes) e named same
 
   pub sizing-refused : (sizing_refusal sizes codes floats ≡ 0 → ⊥) → sizing_of p sizes codes floats ≡ Err (refusal_of (sizing_refusal sizes codes floats))
   unfolding sizing_of planned_if

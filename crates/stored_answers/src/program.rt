@@ -1,5 +1,6 @@
 // What a program that replays stored answers has of its own: its calls, by their numbers, and a state that they are made on one after the other.
-ghost use Rattle.std.specs.Prelude.{◌≡◌, ◌+◌, ◌≤◌, ℕ, Bool, List};
+ghost use Rattle.std.specs.Prelude.{◌≡◌, ◌+◌, ◌*◌, ◌≤◌, ℕ, Bool, List};
+ghost use Rattle.stored_answers.specs.Stored.{number_at};
 ghost use Rattle.stored_answers.specs.Records.{end_by};
 
 use crate::stored::Record;
@@ -47,7 +48,8 @@ pub trait Calls {
 
 // Where the record ends.
 pub fn record_end<T: Calls>(r: Record) -> usize
-    ensures { (result ≡ end_by T.lists_of r.entry.s.now r.entry.at) × (result ≤ r.entry.at + 1310744) }
+    ensures { (result ≡ end_by T.lists_of r.entry.s.now r.entry.at) × (result ≤ r.entry.at + 1310744)
+        × (result ≤ r.entry.at + 4 + 65537 * T.lists_of (number_at r.entry.s.now r.entry.at)) }
 {
     r.place(T::lists(r.call()))
 }

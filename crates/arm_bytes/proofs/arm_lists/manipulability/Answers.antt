@@ -8,6 +8,7 @@ use lib.ListN.{length}
 use Rattle.lists.specs.Splice.{splice}
 use Rattle.spacetime.specs.Walk.{pose_of}
 use Rattle.manipulability.specs.Jacobian.{manipulability_of}
+use Rattle.refusals.specs.Lowest.{first-none}
 use Rattle.calls.specs.Arms.{taken}
 use Rattle.calls.specs.Answer.{value_taken}
 use Rattle.lent_bytes.specs.Lent.{bytes_of}
@@ -17,7 +18,7 @@ use Rattle.arm_bytes.proofs.arm_lists.manipulability.Goals as goal
 
 pub put_floats-requires : goal.put_floats-requires
 put_floats-requires c =
-    omega (arith, bytes_fit _ (length c.args.value.now) _ c.room.ensures (sym c.in_ok-room_refusal.ensures))
+    omega (arith, bytes_fit _ (length c.args.value.now) _ refl (first-none _ _ (sym c.in_ok-value_refusal.ensures)).1)
 
 pub returns-clause-value : goal.returns-clause-value
 unfolding manipulability_value

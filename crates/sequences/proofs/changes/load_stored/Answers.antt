@@ -9,7 +9,7 @@ pub returns : goal.returns
 returns c =
     c.load.ensures
     ∙ same-four (load_of c.args.state)
-    (c.deref.ensures ∙ c.decode-sizes.ensures ∙ ap (numbers_in 8) c.list.ensures.0)
-    (c.deref-2.ensures ∙ c.decode-codes.ensures ∙ ap (numbers_in 80) c.list-2.ensures.0)
-    (c.deref-3.ensures ∙ c.decode-floats.ensures ∙ ap (floats_in 512) c.list-3.ensures.0)
-    (c.deref-4.ensures ∙ c.decode-limits.ensures ∙ ap (floats_in 64) c.list-4.ensures.0)
+    (c.deref.ensures ∙ c.refill.ensures ∙ ap (numbers_in 8) c.list.ensures.0)
+    (c.deref-2.ensures ∙ c.refill-2.ensures ∙ ap (numbers_in 80) c.list-2.ensures.0)
+    (c.deref-3.ensures ∙ c.refill-3.ensures ∙ ap (floats_in 512) c.list-3.ensures.0)
+    (c.deref-4.ensures ∙ c.refill-4.ensures ∙ ap (floats_in 64) c.list-4.ensures.0)

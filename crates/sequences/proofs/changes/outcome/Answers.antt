@@ -1,10 +1,8 @@
 -- `outcome` meets its contract: by the call's number.
 use native.Mathlib.Omega.{arith}
-use mathlib.Core.Path.{ap, ◌∙◌}
+use mathlib.Core.Path.{ap}
 use borrow.Author.Tests.{ne_eqb}
 use Rattle.state_calls.specs.declared.state.State.{State}
-use Rattle.state_calls.specs.Party.{set_goals_of, reset_state_of, update_state_of}
-use Rattle.state_calls.specs.Weights.{set_weights_of}
 use Rattle.sequences.specs.Changes.{outcome_at}
 use Rattle.sequences.proofs.changes.outcome.Goals as goal
 
@@ -18,19 +16,19 @@ returns-in-1 c = rw c.in-1.is c.load_stored.ensures
 
 pub returns-in-2 : goal.returns-in-2
 unfolding outcome_at
-returns-in-2 c = rw c.in-2.is (c.set_goals.ensures ∙ ap (set_goals_of c.args.state) (c.deref.ensures ∙ c.floats.ensures))
+returns-in-2 c = rw c.in-2.is c.set_goals.ensures
 
 pub returns-in-3 : goal.returns-in-3
 unfolding outcome_at
-returns-in-3 c = rw c.in-3.is (c.reset.ensures ∙ ap (reset_state_of c.args.state) (c.deref-in-3.ensures ∙ c.floats-in-3.ensures))
+returns-in-3 c = rw c.in-3.is c.reset.ensures
 
 pub returns-in-4 : goal.returns-in-4
 unfolding outcome_at
-returns-in-4 c = rw c.in-4.is (c.update.ensures ∙ ap (update_state_of c.args.state) (c.deref-in-4.ensures ∙ c.floats-in-4.ensures))
+returns-in-4 c = rw c.in-4.is c.update.ensures
 
 pub returns-in-13 : goal.returns-in-13
 unfolding outcome_at
-returns-in-13 c = rw c.in-13.is (c.set_weights.ensures ∙ ap (set_weights_of c.args.state) (c.deref-in-13.ensures ∙ c.floats-in-13.ensures))
+returns-in-13 c = rw c.in-13.is c.set_weights.ensures
 
 pub returns-in-14 : goal.returns-in-14
 unfolding outcome_at
